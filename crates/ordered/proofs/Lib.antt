@@ -1,0 +1,9 @@
+pub mod Additions
+pub mod Calls
+pub mod Edits
+pub mod Lookups
+pub mod Orders
+pub mod Parts
+pub mod Rekeys
+pub mod Search
+pub mod Shifts
