@@ -1,0 +1,4 @@
+pub mod Sets
+pub mod Meanings
+pub mod Bits
+pub mod Bitmaps
