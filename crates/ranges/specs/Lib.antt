@@ -1,0 +1,4 @@
+pub mod Ranges
+pub mod Runs
+pub mod Steps
+pub mod Maps
