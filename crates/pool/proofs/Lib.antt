@@ -1,5 +1,1 @@
-pub mod Calls
-pub mod Exchange
 pub mod Places
-pub mod Planting
-pub mod Trees

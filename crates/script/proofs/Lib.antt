@@ -1,7 +1,6 @@
 pub mod Decimals
 pub mod Firsts
 pub mod Nexts
-pub mod Opens
 pub mod Puts
 pub mod Readings
 pub mod Runs

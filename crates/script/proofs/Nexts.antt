@@ -5,19 +5,20 @@ use Rattle.faults.specs.declared.Layer.{Layer}
 use Rattle.faults.specs.declared.Layer.TheVariants.{Script}
 use Rattle.faults.specs.declared.ScriptCause.{ScriptCause}
 use Rattle.faults.specs.declared.ScriptCause.TheVariants.{Size, Letter}
-use Rattle.model.specs.declared.Answer.{Answer}
-use Rattle.script.specs.Consoles.{Console, FirstLine, NamesAllocator, TooLong, Answered, named, unnamed, Next, too_long, line, ended, nothing_moved, past, told}
+use Rattle.model.specs.Steps.{nothing_moved}
+use Rattle.model.specs.declared.Changed.{Changed}
+use Rattle.script.specs.Consoles.{Console, FirstLine, NamesAllocator, TooLong, Answered, named, unnamed, Next, too_long, line, ended, past, told}
 
 -- what the first line answers, and the console after it
-abbrev pub FirstAnswer : Console → List ℕ → Result Answer Layer → Console → Type 0
+abbrev pub FirstAnswer : Console → List ℕ → Result Changed Layer → Console → Type 0
 FirstAnswer c bs r d =
     results.MatchResult r (λ a. NamesAllocator bs × (a ≡ nothing_moved) × (d ≡ c)) (λ l. (NamesAllocator bs → ⊥) × (l ≡ Script Letter) × (d ≡ ended c))
 
-pub first_answered : (c : Console) (bs : List ℕ) (r : Result Answer Layer) (d : Console) → c.read ≡ 1 → FirstAnswer c bs r d → Answered c bs r d
+pub first_answered : (c : Console) (bs : List ℕ) (r : Result Changed Layer) (d : Console) → c.read ≡ 1 → FirstAnswer c bs r d → Answered c bs r d
 first_answered c bs (Ok a) d one (names, is, same) = subst (λ x. Answered c bs (Ok x) d) (sym is) (subst (Answered c bs (Ok nothing_moved)) (sym same) (named one names))
 first_answered c bs (Err l) d one (not, is, over) = subst (λ x. Answered c bs (Err x) d) (sym is) (subst (Answered c bs (Err (Script Letter))) (sym over) (unnamed one not))
 
-pub first_read : (c : Console) (bs : List ℕ) (r : Result Answer Layer) (d : Console) → FirstAnswer c bs r d → d.read ≡ c.read
+pub first_read : (c : Console) (bs : List ℕ) (r : Result Changed Layer) (d : Console) → FirstAnswer c bs r d → d.read ≡ c.read
 first_read c bs (Ok a) d (_, _, same) = ap (λ (x : Console). x.read) same
 first_read c bs (Err l) d (_, _, over) = ap (λ (x : Console). x.read) over
 
@@ -30,7 +31,7 @@ too_long_next c d bs cause size long none same pool shows =
     subst (Next c bs) over (subst (λ x. Next c x (ended c)) (sym (shows ∙ ap (λ x. told 0 (Err (Script x))) size)) (too_long long))
 
 -- a line that was read from what is left, and answered
-pub line_next : (c m d : Console) (bs out : List ℕ) (r : Result Answer Layer) (n : ℕ) → (TooLong c.rest → ⊥) → FirstLine c.rest bs m.rest → m.read ≡ c.read + 1 → m.pool ≡ c.pool
+pub line_next : (c m d : Console) (bs out : List ℕ) (r : Result Changed Layer) (n : ℕ) → (TooLong c.rest → ⊥) → FirstLine c.rest bs m.rest → m.read ≡ c.read + 1 → m.pool ≡ c.pool
     → Answered m bs r d → n ≡ m.read → out ≡ told n r → Next c out d
 line_next c m d bs out r n short first counted pool answered under shows =
     let on : m ≡ past c m.rest =

@@ -1,11 +1,10 @@
 -- Line after line of what a console prints.
-use Rattle.std.proofs.Common.{◌≡◌, ℕ, ◌+◌, ◌<◌, ◌≤◌, List, [], ◌∷◌, ◌++◌, length, Some, None, Ok, Err, Result, sym, ap, ◌∙◌, subst, inl, inr, append_assoc, arith}
+use Rattle.std.proofs.Common.{◌≡◌, ℕ, ◌+◌, ◌<◌, ◌≤◌, List, [], ◌∷◌, ◌++◌, length, Ok, Err, Result, sym, ap, ◌∙◌, subst, inl, inr, append_assoc, arith}
 use Rattle.std.proofs.lemmas.List.{length-append}
 use Rattle.faults.specs.declared.Layer.{Layer}
 use Rattle.faults.specs.declared.Layer.TheVariants.{Script}
 use Rattle.faults.specs.declared.ScriptCause.TheVariants.{Size}
-use Rattle.model.specs.declared.Answer.{Answer}
-use Rattle.model.specs.declared.Answer.TheVariants.{Done, Bytes}
+use Rattle.model.specs.declared.Changed.{Changed}
 use Rattle.script.specs.Consoles.{Console, FirstLine, Answered, named, unnamed, later, Next, too_long, line, Prints, none, more, told}
 use Rattle.script.specs.Sessions.{PrintsNext}
 
@@ -15,7 +14,7 @@ first_shorter bs l rest (some, inl (_, e)) = omega (arith, ap length e ∙ lengt
 first_shorter bs l rest (some, inr (_, e)) = omega (arith, ap length e)
 
 -- an answer reads no more than the line
-answered_rest : (c : Console) (bs : List ℕ) (r : Result Answer Layer) (d : Console) → Answered c bs r d → length d.rest ≤ length c.rest
+answered_rest : (c : Console) (bs : List ℕ) (r : Result Changed Layer) (d : Console) → Answered c bs r d → length d.rest ≤ length c.rest
 answered_rest c bs _ _ (named _ _) = omega arith
 answered_rest c bs _ _ (unnamed _ _) = omega arith
 answered_rest c bs _ _ (later _ _) = omega arith
@@ -31,10 +30,8 @@ a_line c bs d some (inl next) = next
 a_line c bs d some (inr (_, e, _)) = absurd (omega (arith, ap length e))
 
 -- nothing was printed, so the console is over
-told_some : (n : ℕ) (r : Result Answer Layer) → 1 ≤ length (told n r)
-told_some n (Ok (Done a)) = omega arith
-told_some n (Ok (Bytes (Some bs))) = omega arith
-told_some n (Ok (Bytes None)) = omega arith
+told_some : (n : ℕ) (r : Result Changed Layer) → 1 ≤ length (told n r)
+told_some n (Ok a) = omega arith
 told_some n (Err l) = omega arith
 
 next_some : (c : Console) (bs : List ℕ) (d : Console) → Next c bs d → 1 ≤ length bs

@@ -1,9 +1,8 @@
 -- A session, by the console that it is.
 --     rest_of l            what the lines l still have to read
 --     CountedWell l       each line that was counted had a byte, of a script that is not too long
---     held p, Whole p      the state that the pool p holds; the pool p and its allocator are sound
 --     console_of s         the console that the session s is
---     Ready s              the pool of the session s is whole, and its lines are counted well
+--     Ready s              the pool of the session s is sound, and its lines are counted well
 --     NewAllocator s a    the allocator a is the one that the first line of the script s names, and owns nothing
 --     PrintsNext c l d    the console c prints the line l next, or l is empty and c prints no more
 use Rattle.std.specs.Prelude.{◌≡◌, ℕ, ◌+◌, ◌≤◌, min, false, ◌⊎◌, List, [], length, drop}
@@ -11,9 +10,8 @@ use Rattle.makes.specs.Makes as any
 use Rattle.makes.specs.Makes.{make_of, meaning_of}
 use Rattle.makes.specs.declared.AnyAllocator.{AnyAllocator}
 use Rattle.makes.specs.declared.Make.{Make}
-use Rattle.model.specs.Datasets.{State}
-use Rattle.pool.specs.Pools.{Intact, state_of}
-use Rattle.pool.specs.declared.Pool.{Pool}
+use Rattle.model.specs.Soundness.{Sound}
+use Rattle.pool.specs.Pools.{state_of}
 use Rattle.script.specs.Consoles.{Console, FirstLine, Names, Next, Over}
 use Rattle.script.specs.declared.lines.Lines.{Lines}
 use Rattle.script.specs.declared.session.Session.{Session}
@@ -26,20 +24,13 @@ rest_of l = drop l.at l.script.now
 abbrev pub CountedWell : Lines → Type 0
 CountedWell l = l.read + min (length (rest_of l)) 32768 ≤ 32768
 
--- a pool over an allocator of either make: the state that it holds, and that both are sound
-abbrev pub held : Pool AnyAllocator → State
-held p = state_of meaning_of p
-
-abbrev pub Whole : Pool AnyAllocator → Type 0
-Whole p = Intact any.Sound meaning_of p
-
 -- the console that a session is
 abbrev pub console_of : Session → Console
-console_of s = record { rest = rest_of s.lines; read = s.lines.read; pool = held s.pool }
+console_of s = record { rest = rest_of s.lines; read = s.lines.read; pool = state_of s.pool }
 
--- the pool is whole, and the lines are counted well
+-- the pool is sound, and the lines are counted well
 abbrev pub Ready : Session → Type 0
-Ready s = Whole s.pool × CountedWell s.lines
+Ready s = Sound (state_of s.pool) × CountedWell s.lines
 
 -- the next line, or no byte where there is none
 abbrev pub PrintsNext : Console → List ℕ → Console → Type 0

@@ -1,17 +1,13 @@
 -- The bytes of each answer.
 --     Buffer n                    a buffer of n bytes is long enough for every answer
 --     Put before after at n bs    the bytes bs were written to a buffer, from `at` on and up to n
---     shown_granted a             the line that shows what a granted call answers
 --     shown a                     the line that shows the answer a
-use Rattle.std.specs.Prelude.{◌≡◌, ℕ, ◌+◌, ◌≤◌, List, [], ◌∷◌, ◌++◌, length, take, drop, Some, None, codes, decimal, Option}
+use Rattle.std.specs.Prelude.{◌≡◌, ℕ, ◌+◌, ◌≤◌, List, [], ◌∷◌, ◌++◌, length, take, drop, codes, decimal}
 use Rattle.faults.specs.Numbers.{fault_number, fault_letter}
 use Rattle.faults.specs.declared.Fault.{Fault}
-use Rattle.model.specs.declared.Answer as model
-use Rattle.model.specs.declared.Answer.TheVariants.{Done, Bytes}
 use Rattle.model.specs.declared.Changed.{Changed}
-use Rattle.script.specs.Parts.{until}
 use Rattle.script.specs.declared.answers.Answer.{Answer}
-use Rattle.script.specs.declared.answers.Answer.TheVariants.{Granted, Refused}
+use Rattle.script.specs.declared.answers.Answer.TheVariants.{Changed as Granted, Refused}
 
 -- a buffer has at least 80 bytes
 abbrev pub Buffer : ℕ → Type 0
@@ -39,15 +35,6 @@ shown_change c = codes "ok " ++ decimal c.taken ++ space ++ decimal c.given ++ n
 abbrev pub shown_fault : Fault → List ℕ
 shown_fault f = codes "no " ++ decimal (fault_number f.layer) ++ space ++ (fault_letter f.layer ∷ []) ++ space ++ decimal f.line ++ newline
 
--- text BYTES, up to the first zero byte, or hole
-abbrev pub shown_bytes : Option (List ℕ) → List ℕ
-shown_bytes (Some bs) = codes "text " ++ until 0 bs ++ newline
-shown_bytes None = codes "hole" ++ newline
-
-abbrev pub shown_granted : model.Answer → List ℕ
-shown_granted (Done c) = shown_change c
-shown_granted (Bytes bs) = shown_bytes bs
-
 abbrev pub shown : Answer → List ℕ
-shown (Granted a) = shown_granted a
+shown (Granted c) = shown_change c
 shown (Refused f) = shown_fault f

@@ -1,29 +1,27 @@
 // The lines that answers print.
-ghost use Rattle.std.specs.Prelude.{◌≡◌, ◌+◌, ◌<◌, ◌≤◌, [], length, Some, decimal};
+ghost use Rattle.std.specs.Prelude.{◌≡◌, ◌+◌, ◌<◌, ◌≤◌, [], length, decimal};
 ghost use Rattle.script.specs.Consoles.{told};
-ghost use Rattle.script.specs.Parts.{until};
-ghost use Rattle.script.specs.Shown.{Put, Buffer, shown, shown_bytes, shown_change, shown_fault, shown_granted};
+ghost use Rattle.script.specs.Shown.{Put, Buffer, shown, shown_change, shown_fault};
 
-use crate::parts::{Part, cut};
 use faults::{Fault, Layer};
 use model::Changed;
 
 // What a line answers.
 #[derive(Clone, Copy)]
 pub enum Answer {
-    // What a granted call answers.
-    Granted(model::Answer),
+    // A granted change, with its counts.
+    Changed(Changed),
     // A refusal.
     Refused(Fault),
 }
 
 impl Answer {
     // The answer to that line.
-    pub fn of(answer: Result<model::Answer, Layer>, line: u32) -> Answer
+    pub fn of(answer: Result<Changed, Layer>, line: u32) -> Answer
         ensures value { shown result ≡ told line answer }
     {
         match answer {
-            Ok(granted) => Answer::Granted(granted),
+            Ok(changed) => Answer::Changed(changed),
             Err(layer) => Answer::Refused(layer.on_line(line)),
         }
     }
@@ -34,21 +32,9 @@ impl Answer {
         ensures wrote { Put out.old out.new 0 result (shown self) }
     {
         match self {
-            Answer::Granted(granted) => put_granted(out, granted),
+            Answer::Changed(changed) => put_change(out, changed),
             Answer::Refused(fault) => put_fault(out, fault),
         }
-    }
-}
-
-// Writes what a granted call answers.
-fn put_granted(out: &mut [u8], granted: model::Answer) -> usize
-    requires { Buffer (length out.old) }
-    ensures wrote { Put out.old out.new 0 result (shown_granted granted) }
-{
-    match granted {
-        model::Answer::Done(changed) => put_change(out, changed),
-        model::Answer::Bytes(Some(bytes)) => put_text(out, &bytes),
-        model::Answer::Bytes(None) => put(out, 0, b"hole\n"),
     }
 }
 
@@ -85,26 +71,6 @@ fn put_change(out: &mut [u8], changed: Changed) -> usize
     let at = put_number(out, at, changed.taken);
     let at = put(out, at, b" ");
     let at = put_number(out, at, changed.given);
-    put(out, at, b"\n")
-}
-
-// What stands before the first zero byte, or all where there is none.
-fn before_zero<'b>(bytes: &'b [u8]) -> &'b [u8]
-    ensures within { length result.now ≤ length bytes.now }
-    ensures value { result.now ≡ until 0 bytes.now }
-{
-    let whole = Part { bytes, at: 0 };
-    let (front, _) = cut(whole, 0);
-    front.bytes
-}
-
-// Writes `text` and the bytes before the first zero byte.
-fn put_text(out: &mut [u8], bytes: &[u8; 64]) -> usize
-    requires { Buffer (length out.old) }
-    ensures wrote { Put out.old out.new 0 result (shown_bytes (Some bytes.now)) }
-{
-    let at = put(out, 0, b"text ");
-    let at = put(out, at, before_zero(bytes));
     put(out, at, b"\n")
 }
 

@@ -1,12 +1,12 @@
 // A console in the middle of its script.
-ghost use Rattle.std.specs.Prelude.{◌≡◌, ℕ, ◌+◌, ◌^◌, ◌<◌, ◌≤◌, List, length, take, drop, IfSome, MatchOption, MatchResult};
-ghost use Rattle.std.specs.Borrow.{Bor};
-ghost use Rattle.std.specs.Option.{option_map};
+ghost use Rattle.std.specs.Prelude.{◌≡◌, ℕ, ◌+◌, ◌^◌, ◌<◌, ◌≤◌, List, length, take, drop, MatchOption, MatchResult};
 ghost use Rattle.faults.specs.declared.Layer.TheVariants.{Script};
 ghost use Rattle.faults.specs.declared.ScriptCause.TheVariants.{Size, Letter};
-ghost use Rattle.model.specs.Steps.{Step};
-ghost use Rattle.script.specs.Consoles.{Answered, FirstLine, Names, NamesAllocator, Next, Obeyed, Over, ended, nothing_moved, opened};
-ghost use Rattle.script.specs.Sessions.{NewAllocator, PrintsNext, Ready, Whole, console_of, held};
+ghost use Rattle.model.specs.Soundness.{Sound};
+ghost use Rattle.model.specs.Steps.{Step, nothing_moved};
+ghost use Rattle.pool.specs.Pools.{state_of};
+ghost use Rattle.script.specs.Consoles.{Answered, FirstLine, Names, NamesAllocator, Next, Obeyed, Over, ended, opened};
+ghost use Rattle.script.specs.Sessions.{NewAllocator, PrintsNext, Ready, console_of};
 ghost use Rattle.script.specs.Shown.{Buffer, shown};
 
 use crate::answers::Answer;
@@ -17,32 +17,25 @@ use faults::{Layer, ScriptCause};
 use makes::{AnyAllocator, Make};
 use model::{Call, Changed};
 use pool::Pool;
-use records::dead::DeadRecord;
 use records::ranges::FreeRange;
 use records::rows::Row;
 
 // The fewest bytes that the output buffer has.
 pub const SHORTEST_BUFFER: usize = 80;
 
-// The blocks, rows and dead records of the console's pool.
-const BLOCKS: u32 = 256;
-
+// The rows and the blocks of the console's pool.
 pub const ROWS: usize = 64;
 
-pub const DEAD_RECORDS: usize = 512;
+const BLOCKS: u32 = 256;
 
-// What its blocks want, and a bitmap and a range map of that many.
-pub const MEMORY_BYTES: usize = 16_384;
-
+// What a bitmap and a range map of that many blocks want.
 pub const BITMAP_BYTES: usize = 32;
 
 pub const FREE_RANGES: usize = 128;
 
 // The memory that a console is lent.
 pub struct Memory<'m> {
-    pub memory: &'m mut [u8; MEMORY_BYTES],
     pub rows: &'m mut [Row; ROWS],
-    pub dead: &'m mut [DeadRecord; DEAD_RECORDS],
     pub bits: &'m mut [u8; BITMAP_BYTES],
     pub ranges: &'m mut [FreeRange; FREE_RANGES],
 }
@@ -50,7 +43,8 @@ pub struct Memory<'m> {
 #[derive(Drop)]
 pub struct Session<'s, 'm> {
     lines: Lines<'s>,
-    pool: Pool<'m, AnyAllocator<'m>>,
+    pool: Pool<'m>,
+    allocator: AnyAllocator<'m>,
 }
 
 // The make that a first line names.
@@ -82,81 +76,43 @@ fn first_make(script: &[u8]) -> Make
     }
 }
 
-// The allocator that the script's first line names, over the memory that it needs.
-fn new_allocator<'m>(
-    script: &[u8],
-    bits: &'m mut [u8; BITMAP_BYTES],
-    ranges: &'m mut [FreeRange; FREE_RANGES],
-) -> AnyAllocator<'m>
-    ensures new { NewAllocator script.now result }
-{
-    let (allocator, made) = AnyAllocator::new(first_make(script), BLOCKS, bits, ranges);
-    let _ = made;
-    allocator
-}
-
-// A copy of a block, or nothing at a hole.
-fn copied(found: Option<&[u8]>) -> Option<[u8; 64]>
-    requires { IfSome found (λ bytes. length bytes.now ≡ 64) }
-    ensures value { result ≡ option_map (λ (bytes : Bor (List ℕ)). bytes.now) found.entry }
-{
-    let mut block = [0u8; 64];
-    block.copy_from_slice(found?);
-    Some(block)
-}
-
 // Has the pool do what a call says.
-fn perform(pool: &mut Pool<'_, AnyAllocator<'_>>, call: Call<'_>) -> Result<model::Answer, Layer>
-    ensures step { Whole pool.old → Step (held pool.old) call.entry result (held pool.new) }
-    ensures whole { Whole pool.old → Whole pool.new }
+fn perform(pool: &mut Pool<'_>, call: Call) -> Result<Changed, Layer>
+    ensures step { Sound (state_of pool.old) → Step (state_of pool.old) call result (state_of pool.new) }
+    ensures sound { Sound (state_of pool.old) → Sound (state_of pool.new) }
 {
     match call {
-        Call::Create { number, height } => Ok(model::Answer::Done(pool.create(number, height)?)),
-        Call::Write {
-            number,
-            position,
-            text,
-        } => Ok(model::Answer::Done(pool.write(number, position, text)?)),
-        Call::Discard { number, position } => {
-            Ok(model::Answer::Done(pool.discard(number, position)?))
-        }
-        Call::Read { number, position } => Ok(model::Answer::Bytes(copied(pool.read(
-            number, position,
-        )?))),
+        Call::Create { number, height } => pool.create(number, height),
     }
 }
 
 // What a later line answers: the pool does what it says.
-fn obey(pool: &mut Pool<'_, AnyAllocator<'_>>, line: Part<'_>) -> Result<model::Answer, Layer>
+fn obey(pool: &mut Pool<'_>, line: Part<'_>) -> Result<Changed, Layer>
     requires { line.at + length line.bytes.now < 2 ^ 64 }
-    ensures obeyed { Whole pool.old → Obeyed (held pool.old) line.entry.bytes.now result (held pool.new) }
-    ensures whole { Whole pool.old → Whole pool.new }
+    ensures obeyed { Sound (state_of pool.old) → Obeyed (state_of pool.old) line.entry.bytes.now result (state_of pool.new) }
+    ensures sound { Sound (state_of pool.old) → Sound (state_of pool.new) }
 {
     let call = read_call(line)?;
     perform(pool, call)
 }
 
 impl<'s, 'm> Session<'s, 'm> {
-    // A console at the start of the script, with an empty pool over the allocator that the first line names.
+    // A console at the start of the script, with an empty pool, and the allocator that the first line names.
     pub fn open(script: &'s [u8], memory: Memory<'m>) -> Session<'s, 'm>
-        ensures value { console_of result ≡ opened memory.entry.memory.now script.now }
+        ensures value { console_of result ≡ opened script.now }
         ensures ready { Ready result }
-        ensures allocator { NewAllocator script.now result.pool.allocator }
+        ensures allocator { NewAllocator script.now result.allocator }
     {
-        let Memory {
-            memory,
-            rows,
-            dead,
-            bits,
-            ranges,
-        } = memory;
-        let allocator = new_allocator(script, bits, ranges);
-        let Ok(pool) = Pool::format(memory, rows, dead, allocator) else {
+        let Memory { rows, bits, ranges } = memory;
+        let Ok(pool) = Pool::format(rows) else {
             unreachable()
         };
+        let (allocator, made) = AnyAllocator::new(first_make(script), BLOCKS, bits, ranges);
+        let _ = made;
         Session {
             lines: Lines::of(script),
             pool,
+            allocator,
         }
     }
 
@@ -165,6 +121,7 @@ impl<'s, 'm> Session<'s, 'm> {
     pub fn print_next(&mut self, out: &mut [u8]) -> Result<usize, ScriptCause>
         ensures cases { MatchResult result (λ n. Buffer (length out.old) × (n ≤ length out.old) × (Ready self.old → PrintsNext (console_of self.old) (take n out.new) (console_of self.new)) × (drop n out.new ≡ drop n out.old)) (λ c. (c ≡ Size) × (Buffer (length out.old) → ⊥) × (self.new ≡ self.old) × (out.new ≡ out.old)) }
         ensures ready { Ready self.old → Ready self.new }
+        ensures allocator { self.new.allocator ≡ self.old.allocator }
     {
         if out.len() < SHORTEST_BUFFER {
             return Err(ScriptCause::Size);
@@ -179,6 +136,7 @@ impl<'s, 'm> Session<'s, 'm> {
     fn answer_next(&mut self) -> Option<Answer>
         ensures cases { Ready self.old → MatchOption result (Over (console_of self.old) × (console_of self.new ≡ console_of self.old)) (λ a. Next (console_of self.old) (shown a) (console_of self.new)) }
         ensures ready { Ready self.old → Ready self.new }
+        ensures allocator { self.new.allocator ≡ self.old.allocator }
     {
         if let Err(cause) = self.lines.check_length() {
             return Some(Answer::of(Err(Layer::Script(cause)), 0));
@@ -193,11 +151,12 @@ impl<'s, 'm> Session<'s, 'm> {
     }
 
     // What that line answers, which was just read.
-    fn answer_line(&mut self, line: Part<'_>) -> Result<model::Answer, Layer>
+    fn answer_line(&mut self, line: Part<'_>) -> Result<Changed, Layer>
         requires { line.at + length line.bytes.now < 2 ^ 64 }
-        ensures answered { Whole self.old.pool → 1 ≤ self.old.lines.read → Answered (console_of self.old) line.entry.bytes.now result (console_of self.new) }
+        ensures answered { Sound (state_of self.old.pool) → 1 ≤ self.old.lines.read → Answered (console_of self.old) line.entry.bytes.now result (console_of self.new) }
         ensures read { self.new.lines.read ≡ self.old.lines.read }
         ensures ready { Ready self.old → Ready self.new }
+        ensures allocator { self.new.allocator ≡ self.old.allocator }
     {
         if self.lines.read == 1 {
             self.answer_first(line.bytes)
@@ -207,12 +166,13 @@ impl<'s, 'm> Session<'s, 'm> {
     }
 
     // What the first line answers. After one that names no allocator, no more is read.
-    fn answer_first(&mut self, line: &[u8]) -> Result<model::Answer, Layer>
+    fn answer_first(&mut self, line: &[u8]) -> Result<Changed, Layer>
         ensures cases { MatchResult result (λ a. NamesAllocator line.now × (a ≡ nothing_moved) × (console_of self.new ≡ console_of self.old)) (λ l. (NamesAllocator line.now → ⊥) × (l ≡ Script Letter) × (console_of self.new ≡ ended (console_of self.old))) }
         ensures ready { Ready self.old → Ready self.new }
+        ensures allocator { self.new.allocator ≡ self.old.allocator }
     {
         match name_allocator(line) {
-            Ok(_) => Ok(model::Answer::Done(Changed { taken: 0, given: 0 })),
+            Ok(_) => Ok(Changed { taken: 0, given: 0 }),
             Err(cause) => {
                 self.lines.stop();
                 Err(Layer::Script(cause))

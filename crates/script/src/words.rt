@@ -1,12 +1,8 @@
 // Words of a line, which are parts of the script.
-ghost use Rattle.std.specs.Prelude.{◌≡◌, ◌+◌, ◌^◌, ◌<◌, T, length, MatchOption};
-ghost use Rattle.script.specs.Parts.{Without};
-ghost use Rattle.script.specs.Words.{Writes, Numeral, IsWord, IsText, TwoWords};
+ghost use Rattle.std.specs.Prelude.{◌≡◌, ◌+◌, ◌^◌, ◌<◌, length, MatchOption, ◌≢◌};
+ghost use Rattle.script.specs.Words.{Writes, Numeral, IsWord, TwoWords, words};
 
 use crate::parts::{Part, cut};
-
-// The most bytes that a text has.
-const LONGEST_TEXT: usize = 64;
 
 // A word, with the part of the script that it is: a number, or any other text.
 #[derive(Clone, Copy)]
@@ -35,22 +31,6 @@ fn number(bytes: &[u8]) -> Option<u32>
     Some(value)
 }
 
-// Are the bytes one to 64, and each printable?
-pub fn is_text(bytes: &[u8]) -> bool
-    ensures yes { T result → IsText bytes.now }
-    ensures no { IsText bytes.now → T result }
-{
-    if bytes.is_empty() || bytes.len() > LONGEST_TEXT {
-        return false;
-    }
-    for b in bytes {
-        if *b < b' ' || *b > b'~' {
-            return false;
-        }
-    }
-    true
-}
-
 impl<'s> Word<'s> {
     // What the part says.
     pub fn of(part: Part<'s>) -> Word<'s>
@@ -63,12 +43,15 @@ impl<'s> Word<'s> {
     }
 }
 
-// The first two words of a part, where it has two, and what follows a second space, where there is one.
-pub fn two_words<'s>(part: Part<'s>) -> Option<(Word<'s>, Word<'s>, Option<Part<'s>>)>
+// The two words of a part, where it has just two.
+pub fn two_words<'s>(part: Part<'s>) -> Option<(Word<'s>, Word<'s>)>
     requires { part.at + length part.bytes.now < 2 ^ 64 }
-    ensures cases { MatchOption result (Without 32 part.entry.bytes.now) (λ p. TwoWords part.entry.bytes.now part.entry.at p.0 p.1 p.2) }
+    ensures cases { MatchOption result (length (words part.entry.bytes.now) ≢ 2) (λ p. TwoWords part.entry.bytes.now part.entry.at p.0 p.1) }
 {
     let (first, more) = cut(part, b' ');
     let (second, more) = cut(more?, b' ');
-    Some((Word::of(first), Word::of(second), more))
+    match more {
+        None => Some((Word::of(first), Word::of(second))),
+        Some(_) => None,
+    }
 }

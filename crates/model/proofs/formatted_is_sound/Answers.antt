@@ -1,4 +1,4 @@
-use Rattle.model.proofs.Starts.{formatted_sound}
+use Rattle.model.proofs.Keeps.{formatted_sound}
 use Rattle.model.proofs.formatted_is_sound.Goals as goal
 
 pub returns : goal.returns

@@ -1,6 +1,6 @@
-use Rattle.std.proofs.Common.{◌≡◌, ℕ, List, [], ◌++◌, take, replicate, vec_items, sym, refl, ap, subst, append-nil, arith}
+use Rattle.std.proofs.Common.{◌≡◌, ℕ, List, [], ◌++◌, take, vec_items, sym, ap, subst, append-nil, arith}
 use Rattle.std.proofs.lemmas.List.{length-take-le}
-use Rattle.script.specs.Consoles.{Console, Next, Prints, opened}
+use Rattle.script.specs.Consoles.{Next, Prints, opened}
 use Rattle.script.specs.Sessions.{console_of}
 use Rattle.script.proofs.Runs.{shorter, a_line, no_line, printed_more}
 use Rattle.transcript.proofs.print.Goals as goal
@@ -12,15 +12,6 @@ next c =
     let long = length-take-le c.in-Ok.len c.print-next.new.out (omega (arith, c.print-next.auto.out, told.1)) in
     a_line _ _ _ (omega (arith, c.if-len-eq0.false, long)) (told.2 c.loop-len.invariant.0)
 
-pub loop-len-init : goal.loop-len-init
-loop-len-init c = (
-  c.open-session.ensures.ready,
-  refl,
-  λ rest printed.
-      subst (λ (out : List ℕ). Prints (opened (replicate 16384 0) c.args.script.now) (out ++ rest)) (sym c.new-out.ensures.items)
-      (subst (λ (x : Console). Prints x rest) c.open-session.ensures.value printed),
-)
-
 pub loop-len-smaller : goal.loop-len-smaller
 loop-len-smaller c = shorter _ _ _ (next c)
 
@@ -30,15 +21,15 @@ loop-len-preserved c =
       c.in-Ok.ensures.ready c.loop-len.invariant.0,
       omega (arith, c.print-next.auto.out, c.loop-len.invariant.1),
       λ rest more.
-          subst (λ (out : List ℕ). Prints (opened (replicate 16384 0) c.args.script.now) (out ++ rest)) (sym all)
-          (printed_more _ _ (Prints (opened (replicate 16384 0) c.args.script.now)) (vec_items c.loop-len.out) _ c.loop-len.invariant.2 (next c) rest more),
+          subst (λ (out : List ℕ). Prints (opened c.args.script.now) (out ++ rest)) (sym all)
+          (printed_more _ _ (Prints (opened c.args.script.now)) (vec_items c.loop-len.out) _ c.loop-len.invariant.2 (next c) rest more),
     )
 
 pub returns-then-len-eq0 : goal.returns-then-len-eq0
 returns-then-len-eq0 c =
     let none : take c.in-Ok.len c.print-next.new.out ≡ [] = ap (λ n. take n c.print-next.new.out) c.if-len-eq0.true in
     let over = no_line _ _ _ none (c.in-Ok.ensures.cases.2 c.loop-len.invariant.0) in
-    record { prints = subst (Prints (opened (replicate 16384 0) c.args.script.now)) (append-nil (vec_items c.loop-len.out)) (c.loop-len.invariant.2 [] over) }
+    record { prints = subst (Prints (opened c.args.script.now)) (append-nil (vec_items c.loop-len.out)) (c.loop-len.invariant.2 [] over) }
 
 pub returns : goal.returns
 returns c = record { prints = absurd (c.in-default.ensures.cases.1 (omega (arith, c.loop-len.invariant.1))) }

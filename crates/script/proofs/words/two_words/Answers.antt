@@ -1,25 +1,29 @@
-use Rattle.std.proofs.Common.{subst, arith}
-use Rattle.script.specs.Parts.{Cut}
-use Rattle.script.proofs.Readings.{no_space, still_inside}
+use Rattle.std.proofs.Common.{◌≡◌, length, sym, subst, arith}
+use Rattle.std.specs.Option as options
+use Rattle.script.specs.Words.{words, TwoWords}
+use Rattle.script.proofs.Readings.{one_word, two_words_are, three_words, still_inside}
 use Rattle.script.proofs.words.two_words.Goals as goal
 
 pub returns-in-err-more : goal.returns-in-err-more
-returns-in-err-more c = rw c.from-residual.ensures
-    (record { cases = no_space c.args.part.bytes.now c.args.part.at c.cut.result.0 c.cut.result.1 c.cut.ensures.cuts c.in-err-more.was })
+returns-in-err-more c = record {
+  cases =
+      subst (λ r. options.MatchOption r (length (words c.args.part.bytes.now) ≡ 2 → ⊥) (λ p. TwoWords c.args.part.bytes.now c.args.part.at p.0 p.1)) (sym c.from-residual.ensures)
+      (one_word c.args.part.bytes.now c.args.part.at c.cut.result.0 c.cut.result.1 c.cut.ensures.cuts c.in-err-more.was);
+}
 
 pub cut-requires-2 : goal.cut-requires-2
-cut-requires-2 c =
-    omega (arith, still_inside c.args.part.bytes.now c.args.part.at c.cut.result.0 c.cut.result.1 c.in-ok-more.field-0 c.cut.ensures.cuts c.in-ok-more.was)
+cut-requires-2 c = omega (arith, still_inside c.args.part.bytes.now c.args.part.at c.cut.result.0 c.cut.result.1 c.in-ok-more.field-0 c.cut.ensures.cuts c.in-ok-more.was)
 
-pub returns : goal.returns
-returns c = record {
-  cases = record {
-    first = c.cut.result.0;
-    second = c.cut-2.result.0;
-    behind = c.in-ok-more.field-0;
-    cut_first = subst (Cut 32 c.args.part.bytes.now c.args.part.at c.cut.result.0) c.in-ok-more.was c.cut.ensures.cuts;
-    cut_second = c.cut-2.ensures.cuts;
-    is_first = c.of.ensures.value;
-    is_second = c.of-2.ensures.value;
-  };
+pub returns-in-None : goal.returns-in-None
+returns-in-None c = record {
+  cases =
+      two_words_are c.args.part.bytes.now c.args.part.at c.cut.result.0 c.cut.result.1 c.in-ok-more.field-0 c.cut.ensures.cuts c.in-ok-more.was c.cut-2.result.0 c.cut-2.result.1 c.cut-2.ensures.cuts
+      _ _ c.in-None.is c.of.ensures.value c.of-in-None.ensures.value;
+}
+
+pub returns-in-Some : goal.returns-in-Some
+returns-in-Some c = record {
+  cases =
+      three_words c.args.part.bytes.now c.args.part.at c.cut.result.0 c.cut.result.1 c.in-ok-more.field-0 c.cut.ensures.cuts c.in-ok-more.was c.cut-2.result.0 c.cut-2.result.1 c.cut-2.ensures.cuts
+      c.in-Some.field-0 c.in-Some.is;
 }

@@ -13,7 +13,7 @@ use Rattle.ranges.proofs.range_map.RangeMapBlockAllocator.give.Goals as goal
 pub returns-then-not-is-out : goal.returns-then-not-is-out
 returns-then-not-is-out c =
     let answer = looked c.args.self.now c.args.n c.saturating-add.result c.before-range.result c.is-out.result (λ lt. omega arith) c.before-range.ensures.value c.is-out.ensures.value in
-    record { gives = λ s. (sym (answer s) ∙ c.if-not-is-out.true, record { size = refl; owns = λ k. refl }); sound = λ s. s; rest = λ s. refl }
+    record { gives = λ s. (sym (answer s) ∙ c.if-not-is-out.true, record { size = refl; owns = λ k. refl }); sound = λ s. s }
 
 pub returns : goal.returns
 returns c =
@@ -33,5 +33,4 @@ returns c =
     record {
       gives = λ s. (refl, (gave s).owned);
       sound = λ s. record { regular = (gave s).regular; counted = omega (arith, free_more (map_of m) (map_of w) n (refl, (gave s).owned), s.regular.few, s.counted) };
-      rest = λ s. (gave s).rest;
     }

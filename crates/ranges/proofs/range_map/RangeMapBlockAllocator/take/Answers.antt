@@ -1,4 +1,4 @@
-use Rattle.std.proofs.Common.{List, length, sym, refl, ap, ◌∙◌, subst, arith}
+use Rattle.std.proofs.Common.{◌≡◌, List, length, sym, refl, ap, ◌∙◌, subst, arith}
 use Rattle.ordered.specs.Lent.{records}
 use Rattle.records.specs.declared.ranges.FreeRange.{FreeRange}
 use Rattle.blocks.proofs.Changes.{free_less}
@@ -18,7 +18,6 @@ returns-in-default c =
       takes = λ s. (refl, all_held m.size (records m.ranges) (sym (ap length c.records.ensures.value) ∙ c.in-default.ensures.value), record { size = refl; owns = λ k. refl });
       sound = λ s. s;
       longest = λ s. tt;
-      rest = λ s. refl;
     }
 
 pub returns : goal.returns
@@ -34,5 +33,4 @@ returns c =
       takes = λ s. (refl, (took s).owned);
       sound = λ s. record { regular = (took s).regular; counted = omega (arith, free_less (map_of m) (map_of w) r.first (refl, (took s).owned), s.counted) };
       longest = λ s. longest_run m.size xs r s.regular.maximal best;
-      rest = λ s. (took s).rest;
     }

@@ -12,11 +12,13 @@ returns-then-self-eq1 c =
       answered = λ s some. first_answered before c.args.line.bytes.now c.answer-first.result after c.if-self-eq1.true c.answer-first.ensures.cases;
       read = first_read before c.args.line.bytes.now c.answer-first.result after c.answer-first.ensures.cases;
       ready = c.answer-first.ensures.ready;
+      allocator = c.answer-first.ensures.allocator;
     }
 
 pub returns-else-self-eq1 : goal.returns-else-self-eq1
 returns-else-self-eq1 c = record {
   answered = λ s some. later (omega (arith, c.if-self-eq1.false)) (c.obey.ensures.obeyed s);
   read = refl;
-  ready = λ ok. (c.obey.ensures.whole ok.0, ok.1);
+  ready = λ ok. (c.obey.ensures.sound ok.0, ok.1);
+  allocator = refl;
 }

@@ -11,6 +11,7 @@ returns-in-Err c =
     record {
       cases = λ ready. too_long_next (console_of c.args.self.now) _ _ c.in-Err.cause told.0 told.1 told.2 told.3 refl c.of.ensures.value;
       ready = λ ready. (ready.0, c.in-Err.ensures.counted ready.1);
+      allocator = refl;
     }
 
 pub returns-in-Some : goal.returns-in-Some
@@ -23,8 +24,9 @@ returns-in-Some c =
     let counts = λ (well : CountedWell old). subst (λ (l : Lines). CountedWell l → (TooLong (rest_of l) → ⊥) → CountedWell new × (new.read ≡ l.read + 1)) same c.in-Some.ensures.counted well short in
     record {
       cases = λ ready.
-          line_next (console_of c.args.self.now) (console_of (record { lines = new; pool = c.args.self.now.pool })) _ c.in-Some.line.bytes.now _ c.answer-line-answer.result _
+          line_next (console_of c.args.self.now) (console_of (record { lines = new; pool = c.args.self.now.pool; allocator = c.args.self.now.allocator })) _ c.in-Some.line.bytes.now _ c.answer-line-answer.result _
           short first (counts ready.1).1 refl (c.answer-line-answer.ensures.answered ready.0 (omega (arith, (counts ready.1).1)))
           c.answer-line-answer.ensures.read c.of-in-Some.ensures.value;
       ready = λ ready. c.answer-line-answer.ensures.ready (ready.0, (counts ready.1).0);
+      allocator = c.answer-line-answer.ensures.allocator;
     }
