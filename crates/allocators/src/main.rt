@@ -1,4 +1,6 @@
 // What a bitmap and a range map of six blocks answer to the same takes and gives.
+#![tactic(auto)]
+
 use blocks::BlockAllocator;
 use makes::{AnyAllocator, Make};
 use records::ranges::FreeRange;

@@ -7,6 +7,8 @@
 // new one owns nothing, whatever its bytes held, and bytes that it does not need stay as they were; a take answers the
 // first free block from its cursor on, going round, and moves the cursor past it; a call changes one bit, or nothing
 // where it refuses. Whatever the bytes and the fields hold, every call returns.
+#![tactic(auto)]
+
 ghost use Rattle.std.specs.Prelude.{◌≡◌};
 ghost use Rattle.blocks.specs.Meanings.{Meaning, free, Taking, Giving, Calling};
 ghost use Rattle.blocks.specs.Sets.{Counting};

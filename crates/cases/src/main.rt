@@ -1,4 +1,6 @@
 // Runs each script that an argument names, and prints its name and its answers.
+#![tactic(auto)]
+
 use std::io::Write;
 use std::{env, fs, io};
 

@@ -1,4 +1,6 @@
 // The script console as a program: a script from standard input, its answers to standard output.
+#![tactic(auto)]
+
 use std::io;
 use std::io::{Read, Write};
 

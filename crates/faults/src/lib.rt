@@ -3,6 +3,8 @@
 // line beside it.
 // Proved: the number and the letter of every cause; that no two causes share a number; that each step upwards keeps
 // the cause as it was.
+#![tactic(auto)]
+
 ghost use Rattle.std.specs.Prelude.{◌≡◌};
 ghost use Rattle.faults.specs.Numbers.{fault_number, fault_letter, Alone};
 ghost use Rattle.faults.specs.declared.Layer.TheVariants.{Script, Pool, Memory};

@@ -1,6 +1,8 @@
 // The two makes of allocator behind one type, for a caller that chooses between them as it runs.
 // Proved: whichever was chosen is an allocator with the meaning of its make; a new one is of the make that was asked
 // for, is refused just where that make refuses, and owns nothing.
+#![tactic(auto)]
+
 ghost use Rattle.std.specs.Prelude.{◌≡◌, ℕ, false, length, MatchResult};
 ghost use Rattle.faults.specs.declared.MemoryCause.TheVariants.{BadShape};
 ghost use Rattle.makes.specs.Makes.{make_of, meaning_of, Sound, Suits};

@@ -2,6 +2,8 @@
 // and leaves. All of it is said in specs/, in the subject's words; the code here is only the types that calls and
 // answers are made of.
 // Proved: a pool just formatted is sound, and every step keeps a sound pool sound.
+#![tactic(auto)]
+
 ghost use Rattle.model.specs.Laws.{FormattedSound, StepsKeepSound};
 
 // A call, as a script or a list of calls names it.

@@ -5,6 +5,8 @@
 // list of records that it names, changes what is found under one key alone, and leaves the table in order. Of any
 // table, in order or not, whatever its count: every call returns, none changes a place past the records that it leaves,
 // and one that refuses (the key is there, no place is left, nothing is found) changes neither a place nor the count.
+#![tactic(auto)]
+
 pub mod keys;
 pub mod places;
 pub mod records;

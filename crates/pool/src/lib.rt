@@ -2,6 +2,8 @@
 // Proved, of a pool that is sound when the call comes: the call answers and leaves what the rules say, or is refused
 // for the first question answered no and then changes nothing; the pool is sound afterwards. Formatting gives a sound
 // pool. On any other memory every call ends and stays inside what was lent.
+#![tactic(auto)]
+
 ghost use Rattle.std.specs.Prelude.{◌≡◌, length, Ok, MatchResult};
 ghost use Rattle.faults.specs.declared.Layer.TheVariants.{Memory};
 ghost use Rattle.faults.specs.declared.MemoryCause.TheVariants.{BadShape};

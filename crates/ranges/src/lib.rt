@@ -8,6 +8,8 @@
 // its range, since at most (size + 1) / 2 ranges stand apart; the number of free blocks is kept. A new map owns nothing,
 // whatever the ranges held, and one that was refused has size 0. Proved of any map, whatever its ranges hold: every call
 // returns.
+#![tactic(auto)]
+
 ghost use Rattle.ranges.specs.Runs.{RangesAreRuns};
 
 mod free;

@@ -2,6 +2,8 @@
 // answers it to a buffer of the caller's.
 // Proved, for any script of any bytes: what stands in the buffer after each call is the line that the rules say, byte
 // for byte, and the rest of the buffer is as it was; a buffer of fewer than 80 bytes is refused and nothing changes.
+#![tactic(auto)]
+
 mod answers;
 mod calls;
 mod lines;

@@ -1,5 +1,7 @@
 // All that a script prints, in memory of the heap, for programs. The console itself allocates nothing.
 // Proved: the bytes are what the console's definition says of the script, from its first line to its end.
+#![tactic(auto)]
+
 ghost use Rattle.std.specs.Prelude.{◌≡◌, ◌≤◌, ◌++◌, length, take, IfOk, OnOk};
 ghost use Rattle.script.specs.Consoles.{Prints, opened};
 
