@@ -32,8 +32,8 @@ fn halfway(low: usize, high: usize) -> usize
 // Where the record with that key stands, or where it belongs.
 pub(crate) fn locate<R: Record>(among: &[R], key: R::Key) -> Result<usize, usize>
     ensures within { MatchResult result (λ i. i < length among.now) (λ i. i ≤ length among.now) }
-    ensures finds { Ascending keyed (Holds R.Key.Key.below) among.now → result_ok result ≡ index_of keyed R.Key.Key.below among.now key }
-    ensures ranks { Ascending keyed (Holds R.Key.Key.below) among.now → either result ≡ rank_of keyed R.Key.Key.below among.now key }
+    ensures finds { Ascending R.keyed (Holds R.Key.Key.below) among.now → result_ok result ≡ index_of R.keyed R.Key.Key.below among.now key }
+    ensures ranks { Ascending R.keyed (Holds R.Key.Key.below) among.now → either result ≡ rank_of R.keyed R.Key.Key.below among.now key }
 {
     let mut low = 0;
     let mut high = among.len();

@@ -20,7 +20,7 @@ pub struct Table<'m, R> {
 impl<'m, R: Record> Table<'m, R> {
     // An empty table.
     pub fn new(places: &'m mut [R]) -> Table<'m, R>
-        ensures ordered { Ordered keyed R.Key.Key.below result }
+        ensures ordered { Ordered R.keyed R.Key.Key.below result }
         ensures empty { records result ≡ [] }
         ensures same { result.places.now ≡ places.old }
     {
@@ -44,7 +44,7 @@ impl<'m, R: Record> Table<'m, R> {
     // How many records have keys below that key.
     pub fn rank(&self, key: R::Key) -> usize
         ensures bound { result ≤ length (records self.now) }
-        ensures value { Ordered keyed R.Key.Key.below self.now → result ≡ rank_of keyed R.Key.Key.below (records self.now) key }
+        ensures value { Ordered R.keyed R.Key.Key.below self.now → result ≡ rank_of R.keyed R.Key.Key.below (records self.now) key }
     {
         match places::locate(self.records(), key) {
             Ok(at) => at,
@@ -55,7 +55,7 @@ impl<'m, R: Record> Table<'m, R> {
     // The index of the record with that key.
     pub fn find(&self, key: R::Key) -> Option<usize>
         ensures within { IfSome result (λ i. i < length (records self.now)) }
-        ensures finds { Ordered keyed R.Key.Key.below self.now → result ≡ index_of keyed R.Key.Key.below (records self.now) key }
+        ensures finds { Ordered R.keyed R.Key.Key.below self.now → result ≡ index_of R.keyed R.Key.Key.below (records self.now) key }
     {
         match places::locate(self.records(), key) {
             Ok(at) => Some(at),
@@ -65,7 +65,7 @@ impl<'m, R: Record> Table<'m, R> {
 
     // The record with that key.
     pub fn get(&self, key: R::Key) -> Option<R>
-        ensures finds { Ordered keyed R.Key.Key.below self.now → result ≡ record_of keyed R.Key.Key.below (records self.now) key }
+        ensures finds { Ordered R.keyed R.Key.Key.below self.now → result ≡ record_of R.keyed R.Key.Key.below (records self.now) key }
     {
         match self.find(key) {
             Some(at) => Some(self.at(at)),
@@ -77,9 +77,9 @@ impl<'m, R: Record> Table<'m, R> {
     // are none where `high` is not above `low`.
     pub fn part(&self, low: R::Key, high: R::Key) -> (&[R], usize)
         ensures run { result.0.now ≡ between result.1 (result.1 + length result.0.now) (records self.now) }
-        ensures first { Ordered keyed R.Key.Key.below self.now → result.0.now ≡ part_of keyed R.Key.Key.below (records self.now) low high }
-        ensures second { Ordered keyed R.Key.Key.below self.now → result.1 ≡ rank_of keyed R.Key.Key.below (records self.now) low }
-        ensures backward { Ordered keyed R.Key.Key.below self.now → (Holds R.Key.Key.below low high → ⊥) → result.0.now ≡ [] }
+        ensures first { Ordered R.keyed R.Key.Key.below self.now → result.0.now ≡ part_of R.keyed R.Key.Key.below (records self.now) low high }
+        ensures second { Ordered R.keyed R.Key.Key.below self.now → result.1 ≡ rank_of R.keyed R.Key.Key.below (records self.now) low }
+        ensures backward { Ordered R.keyed R.Key.Key.below self.now → (Holds R.Key.Key.below low high → ⊥) → result.0.now ≡ [] }
     {
         let from = self.rank(low);
         let to = self.rank(high).max(from);
@@ -88,10 +88,10 @@ impl<'m, R: Record> Table<'m, R> {
 
     // Puts the record at its place, unless one with its key is there or no place is left.
     pub fn insert(&mut self, added: R) -> Insertion
-        ensures value { Ordered keyed R.Key.Key.below self.old → result ≡ answer keyed R.Key.Key.below (room self.old) (records self.old) added }
-        ensures items { Ordered keyed R.Key.Key.below self.old → records self.new ≡ after keyed R.Key.Key.below (records self.old) added result }
-        ensures alone { Ordered keyed R.Key.Key.below self.old → WherePlaced result (Alone keyed R.Key.Key.below (records self.old) (records self.new) (keyed added) (Some added)) }
-        ensures ordered { Ordered keyed R.Key.Key.below self.old → Ordered keyed R.Key.Key.below self.new }
+        ensures value { Ordered R.keyed R.Key.Key.below self.old → result ≡ answer R.keyed R.Key.Key.below (room self.old) (records self.old) added }
+        ensures items { Ordered R.keyed R.Key.Key.below self.old → records self.new ≡ after R.keyed R.Key.Key.below (records self.old) added result }
+        ensures alone { Ordered R.keyed R.Key.Key.below self.old → WherePlaced result (Alone R.keyed R.Key.Key.below (records self.old) (records self.new) (R.keyed added) (Some added)) }
+        ensures ordered { Ordered R.keyed R.Key.Key.below self.old → Ordered R.keyed R.Key.Key.below self.new }
         ensures kept { WhereRefused result (Unchanged self.old self.new) }
         ensures past { KeptPast self.old self.new }
         ensures room { room self.new ≡ room self.old }
@@ -108,10 +108,10 @@ impl<'m, R: Record> Table<'m, R> {
 
     // Takes the record with that key out.
     pub fn remove(&mut self, key: R::Key) -> Option<R>
-        ensures value { Ordered keyed R.Key.Key.below self.old → result ≡ record_of keyed R.Key.Key.below (records self.old) key }
-        ensures items { Ordered keyed R.Key.Key.below self.old → records self.new ≡ without_key keyed R.Key.Key.below (records self.old) key }
-        ensures alone { Ordered keyed R.Key.Key.below self.old → Alone keyed R.Key.Key.below (records self.old) (records self.new) key None }
-        ensures ordered { Ordered keyed R.Key.Key.below self.old → Ordered keyed R.Key.Key.below self.new }
+        ensures value { Ordered R.keyed R.Key.Key.below self.old → result ≡ record_of R.keyed R.Key.Key.below (records self.old) key }
+        ensures items { Ordered R.keyed R.Key.Key.below self.old → records self.new ≡ without_key R.keyed R.Key.Key.below (records self.old) key }
+        ensures alone { Ordered R.keyed R.Key.Key.below self.old → Alone R.keyed R.Key.Key.below (records self.old) (records self.new) key None }
+        ensures ordered { Ordered R.keyed R.Key.Key.below self.old → Ordered R.keyed R.Key.Key.below self.new }
         ensures kept { is_some result ≡ false → Unchanged self.old self.new }
         ensures past { KeptPast self.old self.new }
         ensures room { room self.new ≡ room self.old }
@@ -124,10 +124,10 @@ impl<'m, R: Record> Table<'m, R> {
 
     // Puts the record in the place of the one with its key; false where there is none.
     pub fn replace(&mut self, new: R) -> bool
-        ensures value { Ordered keyed R.Key.Key.below self.old → result ≡ is_some (index_of keyed R.Key.Key.below (records self.old) (keyed new)) }
-        ensures items { Ordered keyed R.Key.Key.below self.old → records self.new ≡ replaced keyed R.Key.Key.below (records self.old) new }
-        ensures alone { Ordered keyed R.Key.Key.below self.old → Alone keyed R.Key.Key.below (records self.old) (records self.new) (keyed new) (if result then Some new else None) }
-        ensures ordered { Ordered keyed R.Key.Key.below self.old → Ordered keyed R.Key.Key.below self.new }
+        ensures value { Ordered R.keyed R.Key.Key.below self.old → result ≡ is_some (index_of R.keyed R.Key.Key.below (records self.old) (R.keyed new)) }
+        ensures items { Ordered R.keyed R.Key.Key.below self.old → records self.new ≡ replaced R.keyed R.Key.Key.below (records self.old) new }
+        ensures alone { Ordered R.keyed R.Key.Key.below self.old → Alone R.keyed R.Key.Key.below (records self.old) (records self.new) (R.keyed new) (if result then Some new else None) }
+        ensures ordered { Ordered R.keyed R.Key.Key.below self.old → Ordered R.keyed R.Key.Key.below self.new }
         ensures kept { result ≡ false → Unchanged self.old self.new }
         ensures past { KeptPast self.old self.new }
         ensures room { room self.new ≡ room self.old }
@@ -144,10 +144,10 @@ impl<'m, R: Record> Table<'m, R> {
     // Puts the record in the place of the one with that key, where its own key stands between those of the neighbours;
     // false where it does not, or no record has that key.
     pub fn rekey(&mut self, key: R::Key, new: R) -> bool
-        ensures value { Ordered keyed R.Key.Key.below self.old → (d : R) → result ≡ fits_over keyed R.Key.Key.below (records self.old) d (keyed new) (index_of keyed R.Key.Key.below (records self.old) key) }
-        ensures there { Ordered keyed R.Key.Key.below self.old → result ≡ true → is_some (index_of keyed R.Key.Key.below (records self.old) key) ≡ true }
-        ensures items { Ordered keyed R.Key.Key.below self.old → records self.new ≡ (if result then with_record keyed R.Key.Key.below (without_key keyed R.Key.Key.below (records self.old) key) new else records self.old) }
-        ensures ordered { Ordered keyed R.Key.Key.below self.old → Ordered keyed R.Key.Key.below self.new }
+        ensures value { Ordered R.keyed R.Key.Key.below self.old → (d : R) → result ≡ fits_over R.keyed R.Key.Key.below (records self.old) d (R.keyed new) (index_of R.keyed R.Key.Key.below (records self.old) key) }
+        ensures there { Ordered R.keyed R.Key.Key.below self.old → result ≡ true → is_some (index_of R.keyed R.Key.Key.below (records self.old) key) ≡ true }
+        ensures items { Ordered R.keyed R.Key.Key.below self.old → records self.new ≡ (if result then with_record R.keyed R.Key.Key.below (without_key R.keyed R.Key.Key.below (records self.old) key) new else records self.old) }
+        ensures ordered { Ordered R.keyed R.Key.Key.below self.old → Ordered R.keyed R.Key.Key.below self.new }
         ensures kept { result ≡ false → Unchanged self.old self.new }
         ensures past { KeptPast self.old self.new }
         ensures room { room self.new ≡ room self.old }
@@ -194,7 +194,7 @@ impl<'m, R: Record> Table<'m, R> {
     // Whether that key is above the one before that index and below the one after it.
     fn stands_between(&self, at: usize, key: R::Key) -> bool
         requires { at < length (records self.now) }
-        ensures value { (d : R) → result ≡ fits_at keyed R.Key.Key.below (records self.now) d key at }
+        ensures value { (d : R) → result ≡ fits_at R.keyed R.Key.Key.below (records self.now) d key at }
     {
         let count = self.len();
         let above = at == 0 || is_below(self.at(at - 1).key(), key);

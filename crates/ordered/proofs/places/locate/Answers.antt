@@ -8,7 +8,7 @@ loop-low-preserved-in-Less g c =
       omega arith,
       omega arith,
       λ up.
-          narrowed_up g.R.Record.keyed g.Key-as-Key.below g.met.R.Key.Key.one g.met.R.Key.Key.chain c.args.among.now c.args.key
+          narrowed_up g.R.Record.keyed g.R.Key.Key.below g.met.R.Key.Key.one g.met.R.Key.Key.chain c.args.among.now c.args.key
           _ within c.index-among-middle.is c.key.ensures up c.in-Less.ensures c.loop-low.low c.loop-low.high (c.loop-low.invariant.2 up),
     )
 
@@ -18,7 +18,7 @@ loop-low-preserved g c =
       omega arith,
       omega arith,
       λ up.
-          narrowed_down g.R.Record.keyed g.Key-as-Key.below g.met.R.Key.Key.one g.met.R.Key.Key.chain c.args.among.now c.args.key
+          narrowed_down g.R.Record.keyed g.R.Key.Key.below g.met.R.Key.Key.one g.met.R.Key.Key.chain c.args.among.now c.args.key
           _ within c.index-among-middle.is c.key.ensures up c.in-Greater.ensures c.loop-low.low c.loop-low.high (c.loop-low.invariant.2 up),
     )
 
@@ -27,16 +27,16 @@ returns-in-Equal g c =
     let within : c.halfway-middle.result < length c.args.among.now = omega arith in
     record {
       within = within;
-      finds = λ up. found_index g.R.Record.keyed g.Key-as-Key.below g.met.R.Key.Key.one g.met.R.Key.Key.chain c.args.among.now c.args.key
+      finds = λ up. found_index g.R.Record.keyed g.R.Key.Key.below g.met.R.Key.Key.one g.met.R.Key.Key.chain c.args.among.now c.args.key
           _ within c.index-among-middle.is c.key.ensures up c.in-Equal.ensures;
-      ranks = λ up. found_rank g.R.Record.keyed g.Key-as-Key.below g.met.R.Key.Key.one g.met.R.Key.Key.chain c.args.among.now c.args.key
+      ranks = λ up. found_rank g.R.Record.keyed g.R.Key.Key.below g.met.R.Key.Key.one g.met.R.Key.Key.chain c.args.among.now c.args.key
           _ within c.index-among-middle.is c.key.ensures up c.in-Equal.ensures;
     }
 
 pub returns : goal.returns
 returns g c =
     let key = g.R.Record.keyed in
-    let below = g.Key-as-Key.below in
+    let below = g.R.Key.Key.below in
     let xs = c.args.among.now in
     let low = c.loop-low.low in
     let met : c.loop-low.high ≡ low = omega arith in

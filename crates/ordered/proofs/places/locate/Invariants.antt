@@ -7,7 +7,7 @@ use Rattle.ordered.proofs.places.locate.Given as goal
 abbrev pub invariant-loop-low : goal.invariant-loop-low
 invariant-loop-low g l =
     (l.low ≤ l.high) × (l.high ≤ length l.among)
-    × (Ascending g.R.Record.keyed (Holds g.Key-as-Key.below) l.among → Narrowed g.R.Record.keyed g.Key-as-Key.below l.among l.key l.low l.high)
+    × (Ascending g.R.Record.keyed (Holds g.R.Key.Key.below) l.among → Narrowed g.R.Record.keyed g.R.Key.Key.below l.among l.key l.low l.high)
 
 abbrev pub decreases-loop-low : goal.decreases-loop-low
 decreases-loop-low g l = l.high - l.low

@@ -12,5 +12,5 @@ returns-in-Placed c = record {
   );
 }
 
-pub returns-in-default : goal.returns-in-default
-returns-in-default c = record { adds = λ up free. absurd (c.in-default.not-Placed (c.insert.ensures.value up ∙ is_placed _ _ c.args.row free.0 free.1)) }
+pub returns-in_default : goal.returns-in_default
+returns-in_default c = record { adds = λ up free. absurd (c.in_default.not-Placed (c.insert.ensures.value up ∙ is_placed _ _ c.args.row free.0 free.1)) }

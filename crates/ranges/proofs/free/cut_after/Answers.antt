@@ -25,12 +25,12 @@ returns c = record {
       let gone = c.remove.ensures in
       let ord = in_order m t s in
       let out = owned_parts m n (records t) owned in
-      let next : c.saturating-add.result ≡ n + 1 = omega (arith, s.few, out.0) in
-      let cut = subst (λ (l : ℕ). Cut m (records t) (records u) (record { first = n + 1; length = l })) (sym c.length-of.ensures.value)
+      let next : c.saturating_add.result ≡ n + 1 = omega (arith, s.few, out.0) in
+      let cut = subst (λ (l : ℕ). Cut m (records t) (records u) (record { first = n + 1; length = l })) (sym c.length_of.ensures.value)
       (cut_after m n (records t) (records u) c.remove.result s.maximal out.0 out.1 (gone.value ord ∙ ap (range_at (records t)) next) (gone.items ord ∙ ap (without (records t)) next)) in
       record {
         regular = record { few = s.few; places = omega (arith, s.places, gone.room); maximal = cut.maximal };
         cut = cut;
-        before = λ k le. below (records t) (records u) c.saturating-add.result k (omega arith) (gone.alone ord);
+        before = λ k le. below (records t) (records u) c.saturating_add.result k (omega arith) (gone.alone ord);
       };
 }

@@ -12,12 +12,12 @@ returns c = record {
       let t = c.args.ranges.now in
       let u = c.change.new.ranges in
       let n = c.args.n in
-      let r = c.length-of-right.result in
+      let r = c.length_of-right.result in
       let xs = records t in
       let ys = without xs (n + 1) in
       let out = owned_parts m n xs owned in
-      let next : c.saturating-add-next.result ≡ n + 1 = omega (arith, s.few, out.0) in
-      let cut = subst (λ (l : ℕ). Cut m xs ys (record { first = n + 1; length = l })) (sym c.length-of-right.ensures.value)
+      let next : c.saturating_add-next.result ≡ n + 1 = omega (arith, s.few, out.0) in
+      let cut = subst (λ (l : ℕ). Cut m xs ys (record { first = n + 1; length = l })) (sym c.length_of-right.ensures.value)
       (cut_after m n xs ys c.get.result s.maximal out.0 out.1 (c.get.ensures.finds (in_order m t s) ∙ ap (range_at xs) next) refl) in
       let is : c.join.result ≡ joined 0 n r = c.join.ensures.value (omega (arith, cut.high, s.few)) in
       let changed = subst (λ (x : FreeRange). Fitting m ys x → Changed m t (n + 1) u x) is

@@ -15,5 +15,5 @@ returns-then-n-lt10 t c = record {
 pub returns : goal.returns
 returns t c = record {
   bound = omega (arith, (decimal_more c.args.n c.if-n-lt10.false (omega arith)).1);
-  wrote = rw (decimal_more c.args.n c.if-n-lt10.false (omega arith)).0 (put_then c.put-number-end.ensures.wrote c.put-2.ensures.wrote);
+  wrote = rw (decimal_more c.args.n c.if-n-lt10.false (omega arith)).0 (put_then c.put_number-end.ensures.wrote c.put-2.ensures.wrote);
 }

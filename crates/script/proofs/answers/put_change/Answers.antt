@@ -3,5 +3,5 @@ use Rattle.script.proofs.answers.put_change.Goals as goal
 
 pub returns : goal.returns
 returns c = record {
-  wrote = put_then (put_then (put_then (put_then c.put-at.ensures.wrote c.put-number-at.ensures.wrote) c.put-at-2.ensures.wrote) c.put-number-at-2.ensures.wrote) c.put.ensures.wrote;
+  wrote = put_then (put_then (put_then (put_then c.put-at.ensures.wrote c.put_number-at.ensures.wrote) c.put-at-2.ensures.wrote) c.put_number-at-2.ensures.wrote) c.put.ensures.wrote;
 }

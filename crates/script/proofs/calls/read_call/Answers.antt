@@ -14,6 +14,6 @@ returns-in-c c =
     let is = opens bs 99 32 two (sym c.from.ensures ∙ c.in-c.is) space in
     record {
       cases =
-          subst (λ (l : List ℕ). results.MatchResult c.read-create.result (λ call. AllYes (line_questions l) × (l ≡ call_text call)) (λ cause. FirstNo (line_questions l) (Script cause))) (sym is)
-          c.read-create.ensures.cases;
+          subst (λ (l : List ℕ). results.MatchResult c.read_create.result (λ call. AllYes (line_questions l) × (l ≡ call_text call)) (λ cause. FirstNo (line_questions l) (Script cause))) (sym is)
+          c.read_create.ensures.cases;
     }

@@ -4,26 +4,26 @@ use Rattle.script.specs.Words.{words, TwoWords}
 use Rattle.script.proofs.Readings.{one_word, two_words_are, three_words, still_inside}
 use Rattle.script.proofs.words.two_words.Goals as goal
 
-pub returns-in-err-more : goal.returns-in-err-more
-returns-in-err-more c = record {
+pub returns-in_err-more : goal.returns-in_err-more
+returns-in_err-more c = record {
   cases =
       subst (λ r. options.MatchOption r (length (words c.args.part.bytes.now) ≡ 2 → ⊥) (λ p. TwoWords c.args.part.bytes.now c.args.part.at p.0 p.1)) (sym c.from-residual.ensures)
-      (one_word c.args.part.bytes.now c.args.part.at c.cut.result.0 c.cut.result.1 c.cut.ensures.cuts c.in-err-more.was);
+      (one_word c.args.part.bytes.now c.args.part.at c.cut.result.0 c.cut.result.1 c.cut.ensures.cuts c.in_err-more.was);
 }
 
 pub cut-requires-2 : goal.cut-requires-2
-cut-requires-2 c = omega (arith, still_inside c.args.part.bytes.now c.args.part.at c.cut.result.0 c.cut.result.1 c.in-ok-more.field-0 c.cut.ensures.cuts c.in-ok-more.was)
+cut-requires-2 c = omega (arith, still_inside c.args.part.bytes.now c.args.part.at c.cut.result.0 c.cut.result.1 c.in_ok-more.field-0 c.cut.ensures.cuts c.in_ok-more.was)
 
 pub returns-in-None : goal.returns-in-None
 returns-in-None c = record {
   cases =
-      two_words_are c.args.part.bytes.now c.args.part.at c.cut.result.0 c.cut.result.1 c.in-ok-more.field-0 c.cut.ensures.cuts c.in-ok-more.was c.cut-2.result.0 c.cut-2.result.1 c.cut-2.ensures.cuts
+      two_words_are c.args.part.bytes.now c.args.part.at c.cut.result.0 c.cut.result.1 c.in_ok-more.field-0 c.cut.ensures.cuts c.in_ok-more.was c.cut-2.result.0 c.cut-2.result.1 c.cut-2.ensures.cuts
       _ _ c.in-None.is c.of.ensures.value c.of-in-None.ensures.value;
 }
 
 pub returns-in-Some : goal.returns-in-Some
 returns-in-Some c = record {
   cases =
-      three_words c.args.part.bytes.now c.args.part.at c.cut.result.0 c.cut.result.1 c.in-ok-more.field-0 c.cut.ensures.cuts c.in-ok-more.was c.cut-2.result.0 c.cut-2.result.1 c.cut-2.ensures.cuts
+      three_words c.args.part.bytes.now c.args.part.at c.cut.result.0 c.cut.result.1 c.in_ok-more.field-0 c.cut.ensures.cuts c.in_ok-more.was c.cut-2.result.0 c.cut-2.result.1 c.cut-2.ensures.cuts
       c.in-Some.field-0 c.in-Some.is;
 }

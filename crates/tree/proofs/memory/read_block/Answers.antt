@@ -3,5 +3,5 @@ use Rattle.tree.proofs.memory.read_block.Goals as goal
 
 pub returns : goal.returns
 returns c =
-    let s = c.in-ok-start.ensures.start in
+    let s = c.in_ok-start.ensures.start in
     record { read = block_read _ _ _ s.0 s.1 }

@@ -4,5 +4,5 @@ use Rattle.tree.proofs.memory.store_block.Goals as goal
 
 pub returns : goal.returns
 returns c =
-    let s = c.in-ok-start.ensures.start in
-    record { stored = block_put _ _ _ _ _ _ s.0 (omega arith) s.1 c.told-bytes c.copy-from-slice.ensures.after }
+    let s = c.in_ok-start.ensures.start in
+    record { stored = block_put _ _ _ _ _ _ s.0 (omega arith) s.1 c.told-bytes c.copy_from_slice.ensures.after }

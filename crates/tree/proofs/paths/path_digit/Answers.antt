@@ -6,5 +6,5 @@ use Rattle.tree.proofs.paths.path_digit.Goals as goal
 pub pow-requires : goal.pow-requires
 pow-requires c = omega (arith, fan_small (c.args.height - (c.args.depth + 1)) (omega arith))
 
-pub nonzero-div-result : goal.nonzero-div-result
-nonzero-div-result c = omega (arith, fan_pos (c.args.height - (c.args.depth + 1)))
+pub nonzero_div-result : goal.nonzero_div-result
+nonzero_div-result c = omega (arith, fan_pos (c.args.height - (c.args.depth + 1)))

@@ -6,12 +6,12 @@ use Rattle.tree.proofs.paths.relink.Goals as goal
 pub loop-depth-preserved : goal.loop-depth-preserved
 loop-depth-preserved c = λ tracks fresh.
     linked_more _ _ _ _ _ _ _ fresh _ _ _ _ _ _ (omega arith) (omega arith) (c.loop-depth.invariant tracks fresh)
-    (tracks c.loop-depth.depth (omega arith)) c.path-digit-k.ensures.value c.new-pointer-below.ensures.value c.in-ok-copy-with.ensures.copied
+    (tracks c.loop-depth.depth (omega arith)) c.path_digit-k.ensures.value c.new_pointer-below.ensures.value c.in_ok-copy_with.ensures.copied
 
-pub returns-in-err-copy-with : goal.returns-in-err-copy-with
-returns-in-err-copy-with c =
+pub returns-in_err-copy_with : goal.returns-in_err-copy_with
+returns-in_err-copy_with c =
     let p = err_from_is_err_and c.from-residual.result c.from-residual.ensures.1 in
-    let o = c.in-err-copy-with.ensures.copied in
+    let o = c.in_err-copy_with.ensures.copied in
     rw (p.1, p.2) (record {
       linked = λ tracks fresh.
           (o.0, linked_lost _ _ _ _ _ _ _ fresh _ _ _ (omega arith) (omega arith) (c.loop-depth.invariant tracks fresh) (tracks c.loop-depth.depth (omega arith)) o.1);

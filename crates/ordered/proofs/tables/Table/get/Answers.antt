@@ -6,11 +6,11 @@ use Rattle.ordered.proofs.tables.Table.get.Goals as goal
 pub returns-in-Some : goal.returns-in-Some
 returns-in-Some g c = record {
   finds = λ s.
-      let f = found g.R.Record.keyed g.Key-as-Key.below (records c.args.self.now) c.args.key c.in-Some.at (sym (c.in-Some.ensures.finds s)) in
+      let f = found g.R.Record.keyed g.R.Key.Key.below (records c.args.self.now) c.args.key c.in-Some.at (sym (c.in-Some.ensures.finds s)) in
       ap Some (c.at.ensures.value c.at.result) ∙ sym (f.entry c.at.result);
 }
 
 pub returns-in-None : goal.returns-in-None
 returns-in-None g c = record {
-  finds = λ s. sym (missing g.R.Record.keyed g.Key-as-Key.below (records c.args.self.now) c.args.key (sym (c.in-None.ensures.finds s))).entry;
+  finds = λ s. sym (missing g.R.Record.keyed g.R.Key.Key.below (records c.args.self.now) c.args.key (sym (c.in-None.ensures.finds s))).entry;
 }

@@ -9,7 +9,7 @@ use Rattle.ordered.proofs.tables.Table.part.Goals as goal
 pub returns : goal.returns
 returns g c =
     let key = g.R.Record.keyed in
-    let below = g.Key-as-Key.below in
+    let below = g.R.Key.Key.below in
     let t = c.args.self.now in
     let xs = records t in
     let low = c.args.low in

@@ -23,5 +23,5 @@ open-requires g c =
     let long = length-take c.args.self.now.count c.args.self.now.places.now in
     record { at = omega (arith, c.requires.within); room = omega (arith, c.requires.room) }
 
-pub overflow-add-self : goal.overflow-add-self
-overflow-add-self g c = let long = length-take c.args.self.now.count c.args.self.now.places.now in search rules
+pub overflow_add-self : goal.overflow_add-self
+overflow_add-self g c = let long = length-take c.args.self.now.count c.args.self.now.places.now in search rules

@@ -10,26 +10,26 @@ use Rattle.ranges.proofs.Maps.{looked}
 use Rattle.ranges.proofs.Steps.{owned_parts}
 use Rattle.ranges.proofs.range_map.RangeMapBlockAllocator.give.Goals as goal
 
-pub returns-then-not-is-out : goal.returns-then-not-is-out
-returns-then-not-is-out c =
-    let answer = looked c.args.self.now c.args.n c.saturating-add.result c.before-range.result c.is-out.result (λ lt. omega arith) c.before-range.ensures.value c.is-out.ensures.value in
-    record { gives = λ s. (sym (answer s) ∙ c.if-not-is-out.true, record { size = refl; owns = λ k. refl }); sound = λ s. s }
+pub returns-then-not-is_out : goal.returns-then-not-is_out
+returns-then-not-is_out c =
+    let answer = looked c.args.self.now c.args.n c.saturating_add.result c.before-range.result c.is_out.result (λ lt. omega arith) c.before-range.ensures.value c.is_out.ensures.value in
+    record { gives = λ s. (sym (answer s) ∙ c.if-not-is_out.true, record { size = refl; owns = λ k. refl }); sound = λ s. s }
 
 pub returns : goal.returns
 returns c =
     let m = c.args.self.now in
     let n = c.args.n in
     let xs = records m.ranges in
-    let u = c.put-back.new.ranges in
-    let w : RangeMap = record { ranges = u; size = m.size; spare = c.saturating-add-self.result } in
-    let answer = looked m n c.saturating-add.result c.before-range.result c.is-out.result (λ lt. omega arith) c.before-range.ensures.value c.is-out.ensures.value in
+    let u = c.put_back.new.ranges in
+    let w : RangeMap = record { ranges = u; size = m.size; spare = c.saturating_add-self.result } in
+    let answer = looked m n c.saturating_add.result c.before-range.result c.is_out.result (λ lt. omega arith) c.before-range.ensures.value c.is_out.ensures.value in
     let gave : Sound m → Gave m.size m.ranges n u = λ s.
-    let owned : (map_of m).owns n ≡ true = sym (answer s) ∙ c.if-not-is-out.false in
+    let owned : (map_of m).owns n ≡ true = sym (answer s) ∙ c.if-not-is_out.false in
     let out = owned_parts m.size n xs owned in
-    let next : c.saturating-add.result ≡ n + 1 = omega (arith, s.regular.few, out.0) in
-    let left = subst (Reaches xs n) (sym c.left-of.ensures.value)
+    let next : c.saturating_add.result ≡ n + 1 = omega (arith, s.regular.few, out.0) in
+    let left = subst (Reaches xs n) (sym c.left_of.ensures.value)
     (reaches m.size n xs s.regular.maximal out.1 c.before-range.result (ap (last_before xs) (sym next) ∙ sym (c.before-range.ensures.value m.size s.regular))) in
-    c.put-back.ensures.after m.size s.regular owned left in
+    c.put_back.ensures.after m.size s.regular owned left in
     record {
       gives = λ s. (refl, (gave s).owned);
       sound = λ s. record { regular = (gave s).regular; counted = omega (arith, free_more (map_of m) (map_of w) n (refl, (gave s).owned), s.regular.few, s.counted) };

@@ -11,11 +11,11 @@ use Rattle.ranges.proofs.Maps.{all_held}
 use Rattle.ranges.proofs.Runs.{longest_run}
 use Rattle.ranges.proofs.range_map.RangeMapBlockAllocator.take.Goals as goal
 
-pub returns-in-default : goal.returns-in-default
-returns-in-default c =
+pub returns-in_default : goal.returns-in_default
+returns-in_default c =
     let m = c.args.self.now in
     record {
-      takes = λ s. (refl, all_held m.size (records m.ranges) (sym (ap length c.records.ensures.value) ∙ c.in-default.ensures.value), record { size = refl; owns = λ k. refl });
+      takes = λ s. (refl, all_held m.size (records m.ranges) (sym (ap length c.records.ensures.value) ∙ c.in_default.ensures.value), record { size = refl; owns = λ k. refl });
       sound = λ s. s;
       longest = λ s. tt;
     }
@@ -25,10 +25,10 @@ returns c =
     let m = c.args.self.now in
     let xs = records m.ranges in
     let r = c.in-Some.range in
-    let u = c.take-first.new.ranges in
-    let w : RangeMap = record { ranges = u; size = m.size; spare = c.saturating-sub-self.result } in
+    let u = c.take_first.new.ranges in
+    let w : RangeMap = record { ranges = u; size = m.size; spare = c.saturating_sub-self.result } in
     let best : Longest xs r = subst (λ (l : List FreeRange). Longest l r) c.records.ensures.value c.in-Some.ensures.value in
-    let took : Sound m → Took m.size m.ranges r.first u = λ s. c.take-first.ensures.after m.size s.regular (found_longest m.size xs r s.regular.maximal best) in
+    let took : Sound m → Took m.size m.ranges r.first u = λ s. c.take_first.ensures.after m.size s.regular (found_longest m.size xs r s.regular.maximal best) in
     record {
       takes = λ s. (refl, (took s).owned);
       sound = λ s. record { regular = (took s).regular; counted = omega (arith, free_less (map_of m) (map_of w) r.first (refl, (took s).owned), s.counted) };

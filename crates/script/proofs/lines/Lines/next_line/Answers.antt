@@ -24,7 +24,7 @@ returns c =
       | in-None w ↦ subst (λ n. Turned script at n line) (sym w.self-is) (turned_last script at bs line whole c.if-self.false (subst (Cut 10 bs at line) w.in-None.is c.cut.ensures.cuts))
     ] in
     let long = length-drop at script in
-    let one = c.saturating-add-self.ensures in
+    let one = c.saturating_add-self.ensures in
     record {
       within = omega (arith, turn.here, turn.inside);
       cases = turn.first;

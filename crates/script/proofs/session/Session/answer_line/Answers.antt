@@ -7,12 +7,12 @@ use Rattle.script.proofs.session.Session.answer_line.Goals as goal
 pub returns-then-self-eq1 : goal.returns-then-self-eq1
 returns-then-self-eq1 c =
     let before = console_of c.args.self.now in
-    let after = console_of c.answer-first.new.self in
+    let after = console_of c.answer_first.new.self in
     record {
-      answered = λ s some. first_answered before c.args.line.bytes.now c.answer-first.result after c.if-self-eq1.true c.answer-first.ensures.cases;
-      read = first_read before c.args.line.bytes.now c.answer-first.result after c.answer-first.ensures.cases;
-      ready = c.answer-first.ensures.ready;
-      allocator = c.answer-first.ensures.allocator;
+      answered = λ s some. first_answered before c.args.line.bytes.now c.answer_first.result after c.if-self-eq1.true c.answer_first.ensures.cases;
+      read = first_read before c.args.line.bytes.now c.answer_first.result after c.answer_first.ensures.cases;
+      ready = c.answer_first.ensures.ready;
+      allocator = c.answer_first.ensures.allocator;
     }
 
 pub returns-else-self-eq1 : goal.returns-else-self-eq1

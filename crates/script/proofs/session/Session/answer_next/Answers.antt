@@ -17,16 +17,16 @@ returns-in-Err c =
 pub returns-in-Some : goal.returns-in-Some
 returns-in-Some c =
     let old = c.args.self.now.lines in
-    let new = c.next-line.new.self in
-    let same : c.check-length.new.self ≡ old = c.in-default.ensures.cases.1 in
-    let short = c.in-default.ensures.cases.0 in
+    let new = c.next_line.new.self in
+    let same : c.check_length.new.self ≡ old = c.in_default.ensures.cases.1 in
+    let short = c.in_default.ensures.cases.0 in
     let first : FirstLine (rest_of old) c.in-Some.line.bytes.now (rest_of new) = subst (λ (l : Lines). FirstLine (rest_of l) c.in-Some.line.bytes.now (rest_of new)) same c.in-Some.ensures.cases in
     let counts = λ (well : CountedWell old). subst (λ (l : Lines). CountedWell l → (TooLong (rest_of l) → ⊥) → CountedWell new × (new.read ≡ l.read + 1)) same c.in-Some.ensures.counted well short in
     record {
       cases = λ ready.
-          line_next (console_of c.args.self.now) (console_of (record { lines = new; pool = c.args.self.now.pool; allocator = c.args.self.now.allocator })) _ c.in-Some.line.bytes.now _ c.answer-line-answer.result _
-          short first (counts ready.1).1 refl (c.answer-line-answer.ensures.answered ready.0 (omega (arith, (counts ready.1).1)))
-          c.answer-line-answer.ensures.read c.of-in-Some.ensures.value;
-      ready = λ ready. c.answer-line-answer.ensures.ready (ready.0, (counts ready.1).0);
-      allocator = c.answer-line-answer.ensures.allocator;
+          line_next (console_of c.args.self.now) (console_of (record { lines = new; pool = c.args.self.now.pool; allocator = c.args.self.now.allocator })) _ c.in-Some.line.bytes.now _ c.answer_line-answer.result _
+          short first (counts ready.1).1 refl (c.answer_line-answer.ensures.answered ready.0 (omega (arith, (counts ready.1).1)))
+          c.answer_line-answer.ensures.read c.of-in-Some.ensures.value;
+      ready = λ ready. c.answer_line-answer.ensures.ready (ready.0, (counts ready.1).0);
+      allocator = c.answer_line-answer.ensures.allocator;
     }

@@ -11,8 +11,8 @@ returns c =
       ready = search rules;
       allocator = record {
         sound = c.new-allocator.ensures.sound;
-        size = fits c.first-make.result c.new-allocator.result.1 _ _ _ bytes places c.new-allocator.ensures.made;
+        size = fits c.first_make.result c.new-allocator.result.1 _ _ _ bytes places c.new-allocator.ensures.made;
         empty = c.new-allocator.ensures.empty;
-        named = λ line rest m first names. c.new-allocator.ensures.make ∙ c.first-make.ensures.named line rest m first names;
+        named = λ line rest m first names. c.new-allocator.ensures.make ∙ c.first_make.ensures.named line rest m first names;
       };
     }
