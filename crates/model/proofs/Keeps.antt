@@ -10,7 +10,7 @@ use Rattle.records.specs.Keys.{number_of}
 use Rattle.records.specs.declared.rows.Row.{Row}
 use Rattle.model.specs.Datasets.{State, Dataset, Unused, head_row}
 use Rattle.model.specs.Laws.{FormattedSound, StepsKeepSound}
-use Rattle.model.specs.Limits.{DatasetNumber, Height}
+use Rattle.model.specs.Limits.{IsDatasetNumber, Height}
 use Rattle.model.specs.Soundness.{Sound}
 use Rattle.model.specs.Steps.{with_row}
 use Rattle.model.specs.declared.Call.TheVariants.{Create}
@@ -44,7 +44,7 @@ dataset_cases s r n x new here = go (cases_Bool (same ltb r.number n))
     go (inl e) = let is : Some r ≡ Some x = sym (cond-true _ _ _ e) ∙ found in inl (same_number _ _ e, cc)
     go (inr apart) = inr (sym (cond-false _ _ _ apart) ∙ found)
 
-with_row_sound : (s : State) (r : Row) → Sound s → Unused s r.number → DatasetNumber r.number → Height r.height → length s.rows < s.row_room → Sound (with_row s r)
+with_row_sound : (s : State) (r : Row) → Sound s → Unused s r.number → IsDatasetNumber r.number → Height r.height → length s.rows < s.row_room → Sound (with_row s r)
 with_row_sound s r sound new number height free = record {
   room = sound.room;
   fits = let more = length_with number_of ltb s.rows r in omega arith;
@@ -53,8 +53,8 @@ with_row_sound s r sound new number height free = record {
   heights = λ n x here. heights n x (dataset_cases s r n x new here);
 }
   where
-    numbers : (n : ℕ) (x : Row) → ((n ≡ r.number) × (x ≡ r)) ⊎ Dataset s n x → DatasetNumber n
-    numbers n x (inl (e, _)) = subst DatasetNumber (sym e) number
+    numbers : (n : ℕ) (x : Row) → ((n ≡ r.number) × (x ≡ r)) ⊎ Dataset s n x → IsDatasetNumber n
+    numbers n x (inl (e, _)) = subst IsDatasetNumber (sym e) number
     numbers n x (inr old) = sound.numbers n x old
 
     heights : (n : ℕ) (x : Row) → ((n ≡ r.number) × (x ≡ r)) ⊎ Dataset s n x → Height x.height

@@ -1,12 +1,12 @@
 -- The numbers that limit a pool.
---     DatasetNumber n    n may number a dataset
---     Height h            h may be the height of a dataset's tree
+--     IsDatasetNumber n  n may number a dataset
+--     Height h           h may be the height of a dataset's tree
 --     RowRoom n          a row table may have n places
 use Rattle.std.specs.Prelude.{ℕ, ◌≤◌}
 
 -- dataset numbers are 1 to 999
-abbrev pub DatasetNumber : ℕ → Type 0
-DatasetNumber n = (1 ≤ n) × (n ≤ 999)
+abbrev pub IsDatasetNumber : ℕ → Type 0
+IsDatasetNumber n = (1 ≤ n) × (n ≤ 999)
 
 -- heights are 1 to 4
 abbrev pub Height : ℕ → Type 0

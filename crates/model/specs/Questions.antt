@@ -9,7 +9,7 @@ use Rattle.faults.specs.declared.Layer.TheVariants.{Pool, Memory}
 use Rattle.faults.specs.declared.PoolCause.TheVariants.{DatasetNumber, NumberUsed, OutOfRange}
 use Rattle.faults.specs.declared.MemoryCause.TheVariants.{RowsFull}
 use Rattle.model.specs.Datasets.{State, Unused}
-use Rattle.model.specs.Limits.{DatasetNumber, Height}
+use Rattle.model.specs.Limits.{IsDatasetNumber, Height}
 use Rattle.model.specs.declared.Call.{Call}
 use Rattle.model.specs.declared.Call.TheVariants.{Create}
 
@@ -33,7 +33,7 @@ FirstNo (q ∷ qs) c = ((q.holds → ⊥) × (c ≡ q.cause)) ⊎ (q.holds × Fi
 
 -- is it a dataset number?
 abbrev pub numbered : ℕ → Question
-numbered n = ask (DatasetNumber n) (Pool DatasetNumber)
+numbered n = ask (IsDatasetNumber n) (Pool DatasetNumber)
 
 -- is the number unused?
 abbrev pub unused : State → ℕ → Question

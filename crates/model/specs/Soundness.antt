@@ -5,7 +5,7 @@ use Rattle.ordered.specs.Tables.{Ascending}
 use Rattle.records.specs.Keys.{number_of}
 use Rattle.records.specs.declared.rows.Row.{Row}
 use Rattle.model.specs.Datasets.{State, Dataset}
-use Rattle.model.specs.Limits.{DatasetNumber, Height, RowRoom}
+use Rattle.model.specs.Limits.{IsDatasetNumber, Height, RowRoom}
 
 pub record Sound (s : State) : Type 0 where
   -- the row table has a size that a pool may have
@@ -15,5 +15,5 @@ pub record Sound (s : State) : Type 0 where
   -- the rows stand in the order of their numbers, no number twice
   pub ordered : Ascending number_of (Holds nat_lt) s.rows
   -- every dataset has a number and a height in range
-  pub numbers : (n : ℕ) (r : Row) → Dataset s n r → DatasetNumber n
+  pub numbers : (n : ℕ) (r : Row) → Dataset s n r → IsDatasetNumber n
   pub heights : (n : ℕ) (r : Row) → Dataset s n r → Height r.height

@@ -2,7 +2,7 @@
 ghost use Rattle.std.specs.Prelude.{◌≡◌, ◌<◌, length, None, MatchResult, ◌≢◌};
 ghost use Rattle.faults.specs.declared.PoolCause.TheVariants.{DatasetNumber, NumberUsed, OutOfRange};
 ghost use Rattle.faults.specs.declared.MemoryCause.TheVariants.{RowsFull, BadShape};
-ghost use Rattle.model.specs.Limits.{DatasetNumber, Height, RowRoom};
+ghost use Rattle.model.specs.Limits.{IsDatasetNumber, Height, RowRoom};
 ghost use Rattle.ordered.specs.Lent.{records, room};
 ghost use Rattle.pool.specs.Pools.{in_rows, RowsOrdered};
 
@@ -12,7 +12,7 @@ use records::rows::Row;
 
 // Is it 1 to 999?
 pub fn dataset_number(number: u32) -> Result<(), PoolCause>
-    ensures cases { MatchResult result (λ _. DatasetNumber number) (λ c. (c ≡ DatasetNumber) × (DatasetNumber number → ⊥)) }
+    ensures cases { MatchResult result (λ _. IsDatasetNumber number) (λ c. (c ≡ DatasetNumber) × (IsDatasetNumber number → ⊥)) }
 {
     match number {
         1..=999 => Ok(()),
