@@ -18,12 +18,12 @@ returns t c = record {
 
 pub returns-in_err-up : goal.returns-in_err-up
 returns-in_err-up t c =
-    let p = err_from_is_err_and c.from-residual.result c.from-residual.ensures.1 in
+    let p = err_from_is_err_and c.from_residual.result c.from_residual.ensures.1 in
     let o = c.in_err-up.ensures.found in
     rw (p.1, p.2) (record { found = (o.0, lost_up _ _ _ _ (omega arith) o.1) })
 
 pub returns-in_err-part : goal.returns-in_err-part
 returns-in_err-part t c =
-    let p = err_from_is_err_and c.from-residual-in_err-part.result c.from-residual-in_err-part.ensures.1 in
+    let p = err_from_is_err_and c.from_residual-in_err-part.result c.from_residual-in_err-part.ensures.1 in
     let o = c.in_err-part.ensures.read in
     rw (p.1, p.2) (record { found = (o.0, lost_here _ _ _ _ c.in-Some.up (omega arith) (sym c.in-Some.is ∙ c.in_ok-up.ensures.found) o.1) })

@@ -10,7 +10,7 @@ loop-depth-preserved c = λ tracks fresh.
 
 pub returns-in_err-copy_with : goal.returns-in_err-copy_with
 returns-in_err-copy_with c =
-    let p = err_from_is_err_and c.from-residual.result c.from-residual.ensures.1 in
+    let p = err_from_is_err_and c.from_residual.result c.from_residual.ensures.1 in
     let o = c.in_err-copy_with.ensures.copied in
     rw (p.1, p.2) (record {
       linked = λ tracks fresh.

@@ -21,6 +21,6 @@ returns c = record { surveyed = (omega arith, survey_all _ _ _ _ _ _ _ (omega ar
 
 pub returns-in_err-next : goal.returns-in_err-next
 returns-in_err-next c =
-    let p = err_from_is_err_and c.from-residual.result c.from-residual.ensures.1 in
+    let p = err_from_is_err_and c.from_residual.result c.from_residual.ensures.1 in
     let o = c.in_err-next.ensures.looked in
     rw (p.1, p.2) (record { surveyed = (o.0, λ low inside. out_lost _ _ _ _ _ _ (omega arith) c.loop-depth.invariant.1 o.1) })
