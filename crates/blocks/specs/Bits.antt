@@ -6,7 +6,7 @@
 --     FirstClear v a p    p is the first bit of v from a on that is 0, or 8 where there is none
 --     Taken s a b         s has every number from a on and below b
 --     FirstFree s a b n   n is the first of those that s has not
-use Rattle.std.specs.Prelude.{◌≡◌, ℕ, ◌/◌, ◌%◌, ◌^◌, ◌<◌, ◌≤◌, Bool, true, false, List, ◌++◌, drop, set, replicate, ◌==◌, bit_xor, slice_index, slice_set}
+use Rattle.std.specs.Prelude.{◌≡◌, ℕ, ◌/◌, ◌%◌, ◌^◌, ◌<◌, ◌≤◌, Bool, true, false, List, ◌++◌, drop, replicate, ◌==◌, bit_xor, slice_index, slice_set}
 
 -- bit k of v, from the lowest, is 1
 abbrev pub bit : ℕ → ℕ → Bool

@@ -6,7 +6,7 @@ use Rattle.blocks.proofs.bitmap.Bitmap.new.Goals as goal
 
 pub returns : goal.returns
 returns c =
-    let size = c.if-is-ok.size in
+    let size = c.if-is_ok.size in
     let few : size ≤ most = search rules in
     let room : needed size ≤ length c.clear.new.bytes = search rules in
     let clear : c.clear.new.bytes ≡ cleared (needed size) c.args.bytes.now = search rules in
