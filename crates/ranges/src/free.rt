@@ -6,7 +6,7 @@ ghost use Rattle.ranges.specs.Steps.{Regular, Fitting, Put, Changed, CutAfter, T
 
 use crate::range::{is_longer, join, length_of, rest};
 use ordered::tables::Table;
-use records::ranges::{FirstBlock, FreeRange, Key};
+use records::ranges::{FirstBlock, FreeRange};
 
 // The longest range, the lowest among equals.
 pub(crate) fn longest(ranges: &[FreeRange]) -> Option<FreeRange>

@@ -9,7 +9,7 @@ use crate::range::{is_out, left_of};
 use blocks::{BlockAllocator, NotOwned};
 use faults::MemoryCause;
 use ordered::tables::Table;
-use records::ranges::{FreeRange, Key};
+use records::ranges::FreeRange;
 
 // The largest size.
 const MOST: u32 = 32_768;

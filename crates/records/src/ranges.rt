@@ -2,7 +2,7 @@
 ghost use Rattle.records.specs.Keys.{first_of, first_below};
 ghost use Rattle.std.proofs.Common.{rules};
 
-use ordered::keys::{Key, Key as _};
+use ordered::keys::Key;
 use ordered::records::Record;
 use std::cmp::Ordering;
 

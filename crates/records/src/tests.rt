@@ -1,4 +1,4 @@
-use crate::dead::{DeadKey, DeadRecord, Key};
+use crate::dead::{DeadKey, DeadRecord};
 use ordered::places::Insertion;
 use ordered::tables::Table;
 
