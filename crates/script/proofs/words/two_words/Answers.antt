@@ -7,7 +7,7 @@ use Rattle.script.proofs.words.two_words.Goals as goal
 pub returns-in_err-more : goal.returns-in_err-more
 returns-in_err-more c = record {
   cases =
-      subst (λ r. options.MatchOption r (length (words c.args.part.bytes.now) ≡ 2 → ⊥) (λ p. TwoWords c.args.part.bytes.now c.args.part.at p.0 p.1)) (sym c.from-residual.ensures)
+      subst (λ r. options.MatchOption r (length (words c.args.part.bytes.now) ≡ 2 → ⊥) (λ p. TwoWords c.args.part.bytes.now c.args.part.at p.0 p.1)) (sym c.from_residual.ensures)
       (one_word c.args.part.bytes.now c.args.part.at c.cut.result.0 c.cut.result.1 c.cut.ensures.cuts c.in_err-more.was);
 }
 
