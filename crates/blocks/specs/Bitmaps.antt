@@ -13,8 +13,8 @@
 --     Took b n w           w is b with block n owned, and the cursor past it
 --     Gave b n w           w is b with block n free, and the cursor where it was
 --     Kept b w             w is b
---     TakesNext b w r     a take that answers r goes from b to w
---     GivesBack b n w r   a give of block n that answers r goes from b to w
+--     TakesNext b w r      a take that answers r goes from b to w
+--     GivesBack b n w r    a give of block n that answers r goes from b to w
 use Rattle.std.specs.Prelude.{◌≡◌, ℕ, ◌+◌, ◌-◌, ◌/◌, ◌^◌, ◌<◌, ◌≤◌, min, Bool, true, false, cond, ◌&&◌, List, length, Ok, Err, Result, nat_le, nat_lt}
 use Rattle.std.proofs.lemmas.Bool.{and_parts, ltb-true}
 use Rattle.faults.specs.declared.MemoryCause.{MemoryCause}

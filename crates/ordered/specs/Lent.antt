@@ -2,7 +2,7 @@
 --     records t, room t      its records, in their order; how many places it was lent
 --     Ordered key below t    its records are ascending
 --     Unchanged t u          u holds what t holds, also in the places that no record uses
---     KeptPast t u          the places past the records of u hold what they held in t
+--     KeptPast t u           the places past the records of u hold what they held in t
 use Rattle.std.specs.Prelude.{◌≡◌, ℕ, Bool, List, length, take, drop}
 use Rattle.ordered.specs.Order.{Holds}
 use Rattle.ordered.specs.Tables.{Ascending}

@@ -1,6 +1,6 @@
 -- A total order, given by the test of its strict part. Assumes nothing.
 --     ExactlyOne P Q R     one of the three holds, and the other two do not
---     Holds test a b        the test says yes
+--     Holds test a b       the test says yes
 use Rattle.std.specs.Prelude.{◌≡◌, Bool, true, ◌⊎◌}
 
 -- one of the three holds, and the other two do not

@@ -1,16 +1,16 @@
 -- Records in the order of their keys: what they are, and what looking up, putting in and taking out mean. Assumes nothing.
 -- Throughout, `key` is the key of a record, `below` the order of the keys, and xs are records, in a table's order.
---     same below a b                 a and b are the same key
---     Ascending key below xs         each key is below the next, so no key stands twice
---     index_of, record_of            where the record with a key stands, and that record; nothing where none has it
---     rank_of                        how many records have keys below a key
---     part_of                        the records with keys from one key on and below another
---     with_record, without_key, replaced      xs with one more record, without one, with one in the place of another
---     fits_at, fits_over             whether a key can stand at an index in the place of the one there
---     Alone                          two lists of records differ at one key alone
---     either r                       the index in an answer of the search
---     answer, after                  what an insertion answers, and the records that it leaves
---     WhereRefused, WherePlaced    what is known where an insertion was refused, and where it was not
+--     same below a b                      a and b are the same key
+--     Ascending key below xs              each key is below the next, so no key stands twice
+--     index_of, record_of                 where the record with a key stands, and that record; nothing where none has it
+--     rank_of                             how many records have keys below a key
+--     part_of                             the records with keys from one key on and below another
+--     with_record, without_key, replaced  xs with one more record, without one, with one in the place of another
+--     fits_at, fits_over                  whether a key can stand at an index in the place of the one there
+--     Alone                               two lists of records differ at one key alone
+--     either r                            the index in an answer of the search
+--     answer, after                       what an insertion answers, and the records that it leaves
+--     WhereRefused, WherePlaced           what is known where an insertion was refused, and where it was not
 use Rattle.std.specs.Prelude.{◌≡◌, ℕ, suc, ◌+◌, ◌-◌, ◌<◌, Bool, false, cond, not, ◌&&◌, ◌||◌, List, [], ◌∷◌, length, is_some, Some, None, Ok, Err, filter, Option, Result, ◌==◌, nat_le, nat_lt, slice_index_or}
 use Rattle.std.specs.Option.{option_map}
 use Rattle.ordered.specs.declared.places.Insertion.{Insertion}

@@ -1,7 +1,7 @@
 -- A pool in lent memory, by the state that it holds.
 --     in_rows t n        the row with number n in a row table, or nothing
---     RowsOrdered t     the rows stand in the order of their numbers
---     HasPlace t r      the row r can join a row table
+--     RowsOrdered t      the rows stand in the order of their numbers
+--     HasPlace t r       the row r can join a row table
 --     state_of p         the state that the pool p holds
 use Rattle.std.specs.Prelude.{◌≡◌, ℕ, ◌<◌, length, None, Option, nat_lt}
 use Rattle.ordered.specs.Lent.{Ordered, records, room}

@@ -2,7 +2,7 @@
 --     map_of m               its size, and the blocks that lie in none of its free ranges
 --     Sound m                it holds maximal ranges, with a place for as many as there can be, and the right number of free blocks
 --     Makes n places m r     a map m of n blocks over so many places, where r answers that it is made
---     TakesLongest m r      a take from the map m that answers r took the first block of the longest run, the lowest among equals
+--     TakesLongest m r       a take from the map m that answers r took the first block of the longest run, the lowest among equals
 use Rattle.std.specs.Prelude.{◌≡◌, ℕ, ◌<◌, true, Ok, Err, Result, nat_lt}
 use Rattle.std.proofs.lemmas.Bool.{and_parts, ltb-true}
 use Rattle.faults.specs.declared.MemoryCause.{MemoryCause}

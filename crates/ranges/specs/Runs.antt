@@ -1,8 +1,8 @@
 -- Maximal runs of blocks that are not owned. Assumes nothing.
 --     Run s n f l               of the blocks below n, the l from f on are not in the set s, and those next to them are
---     FirstOfLongest s n f    f is the first block of the longest run, the lowest among equals
+--     FirstOfLongest s n f      f is the first block of the longest run, the lowest among equals
 --     Maximal n rs              the ranges rs are the runs of the blocks that are not owned, and there are few
---     RangesAreRuns           that holds of all ranges that stand apart
+--     RangesAreRuns             that holds of all ranges that stand apart
 use Rattle.std.specs.Prelude.{◌≡◌, ℕ, ◌+◌, ◌/◌, ◌<◌, ◌≤◌, Bool, true, false, List, length, get_or, slice_index_or}
 use Rattle.records.specs.declared.ranges.FreeRange.{FreeRange}
 use Rattle.ranges.specs.Ranges.{apart, held}

@@ -5,7 +5,7 @@
 --     Fitting n rs r         the range r has a block, ends within n and stands clear of rs
 --     Put n t u r            the table u is t with r in place of the range that begins where r does, if any
 --     Changed n t b u r      the table u is t with r in place of the range that begins at block b, if any
---     CutAfter n t b u l    the table u is t without the range that begins right after block b, of l blocks or none
+--     CutAfter n t b u l     the table u is t without the range that begins right after block b, of l blocks or none
 --     Took n t b u           the table u is t with block b taken
 --     Gave n t b u           the table u is t with block b given back
 use Rattle.std.specs.Prelude.{◌≡◌, ℕ, ◌+◌, ◌/◌, ◌<◌, ◌≤◌, Bool, true, false, ◌||◌, List}

@@ -1,8 +1,8 @@
 -- What a script prints.
 --     Console               a console in the middle of its script
---     FirstLine bs l k     l is the first line of bs, and k what follows it
+--     FirstLine bs l k      l is the first line of bs, and k what follows it
 --     Names l m             the line l names the make m of allocator
---     NamesAllocator l     the line l names an allocator, as the first line of a script must
+--     NamesAllocator l      the line l names an allocator, as the first line of a script must
 --     Obeyed s l r t        the line l, after the first, answers r in the state s and leaves t
 --     Answered c l r d      the console c, which has just read the line l, answers r, and is then d
 --     told n r              the line that shows the answer r to line n

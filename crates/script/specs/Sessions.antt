@@ -1,10 +1,10 @@
 -- A session, by the console that it is.
 --     rest_of l            what the lines l still have to read
---     CountedWell l       each line that was counted had a byte, of a script that is not too long
+--     CountedWell l        each line that was counted had a byte, of a script that is not too long
 --     console_of s         the console that the session s is
 --     Ready s              the pool of the session s is sound, and its lines are counted well
---     NewAllocator s a    the allocator a is the one that the first line of the script s names, and owns nothing
---     PrintsNext c l d    the console c prints the line l next, or l is empty and c prints no more
+--     NewAllocator s a     the allocator a is the one that the first line of the script s names, and owns nothing
+--     PrintsNext c l d     the console c prints the line l next, or l is empty and c prints no more
 use Rattle.std.specs.Prelude.{◌≡◌, ℕ, ◌+◌, ◌≤◌, min, false, ◌⊎◌, List, [], length, drop}
 use Rattle.makes.specs.Makes as any
 use Rattle.makes.specs.Makes.{make_of, meaning_of}

@@ -2,8 +2,8 @@
 --     words bs           the words of bs, which is cut at each space
 --     Writes bs n        bs is the number n, written in at most five digits
 --     Numeral bs         bs is such a number
---     IsWord w bs at    the word w is what the bytes bs say, and keeps them and their place in the script
---     TwoWords          bytes that are just two words
+--     IsWord w bs at     the word w is what the bytes bs say, and keeps them and their place in the script
+--     TwoWords           bytes that are just two words
 use Rattle.std.specs.Prelude.{◌≡◌, ℕ, ◌+◌, ◌<◌, cond, List, [], ◌∷◌, ◌++◌, length, decimal, ◌==◌}
 use Rattle.script.specs.declared.words.Word.{Word}
 use Rattle.script.specs.declared.words.Word.TheVariants.{Number, Text}

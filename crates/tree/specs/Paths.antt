@@ -3,7 +3,7 @@
 --     led mem q                    the bytes of the block that q points to, or holes where q is one
 --     with_pointer bytes k q       the bytes with the pointer q at place k
 --     filled bytes                 the bytes with zero bytes up to a whole block
---     OnlyChild, OtherChild      of the pointers that q leads to, only the k-th may be no hole; another is none
+--     OnlyChild, OtherChild        of the pointers that q leads to, only the k-th may be no hole; another is none
 --     Stay mem root h p k          k levels of the path to p are still needed once p is a hole
 --     new_at f g k d               what stands at depth d of a path of which k levels are new: block f d, born in g
 --     Fresh                        k blocks that may replace the first k of a path

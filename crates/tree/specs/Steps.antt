@@ -1,10 +1,10 @@
 -- What the inner functions leave.
 --     LeadsOut mem q          the pointer q leads to a block outside the memory
---     Put mem mem' n bytes     block n now holds the bytes, and the other blocks are as they were
+--     Put mem mem' n bytes    block n now holds the bytes, and the other blocks are as they were
 --     HolesBeside part k n    of the first n pointers of an indirect block, all but the k-th are holes
 --     PointerBeside part k    an indirect block has a pointer at another place than k
---     Looked mem q k next b    next is what q leads to under index k, and b says whether q leads to others
---     Linked                   the first d blocks of a new path are written, and no others
+--     Looked mem q k next b   next is what q leads to under index k, and b says whether q leads to others
+--     Linked                  the first d blocks of a new path are written, and no others
 use Rattle.std.specs.Prelude.{◌≡◌, ℕ, suc, ◌+◌, ◌*◌, ◌<◌, ◌≤◌, Bool, true, false, List, length, Some, None, Option, ◌≢◌}
 use Rattle.records.specs.declared.rows.Pointer.{Pointer}
 use Rattle.tree.specs.Trees.{block_size, fan, block, pointer_in, child, digit, on_path, Outside}

@@ -6,7 +6,7 @@ use Rattle.script.proofs.Runs.{shorter, a_line, no_line, printed_more}
 use Rattle.transcript.proofs.print.Goals as goal
 
 -- the line that was printed in this turn
-next : (c : goal.In-ok-append) → Next (console_of c.loop-len.session) (take c.in-Ok.len c.print_next.new.out) (console_of c.print_next.new.self)
+next : (c : goal.In_ok-append) → Next (console_of c.loop-len.session) (take c.in-Ok.len c.print_next.new.out) (console_of c.print_next.new.self)
 next c =
     let told = c.in-Ok.ensures.cases in
     let long = length-take-le c.in-Ok.len c.print_next.new.out (omega (arith, c.print_next.auto.out, told.1)) in
