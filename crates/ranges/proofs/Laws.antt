@@ -1,5 +1,5 @@
 -- What the changes of an ordered table do to ranges that stand apart. Assumes nothing.
-use Rattle.std.proofs.Common.{◌≡◌, ℕ, zero, suc, ◌+◌, ◌-◌, ◌<◌, ◌≤◌, Bool, true, false, not, ◌&&◌, ◌||◌, ltb, leb, ◌⊎◌, List, [], ◌∷◌, length, Some, None, Option, sym, refl, ap, ◌∙◌, subst, inl, inr, ⊎_elim, arith}
+use Rattle.std.proofs.Common.{◌≡◌, ℕ, zero, suc, ◌+◌, ◌-◌, ◌<◌, ◌≤◌, Bool, true, false, ◌||◌, ltb, ◌⊎◌, List, [], ◌∷◌, length, Some, None, Option, sym, refl, ap, ◌∙◌, subst, inl, inr, arith}
 use Rattle.std.specs.Option.{option_map}
 use Rattle.std.proofs.lemmas.Bool.{both_ways, cases_Bool, cases_lt, cond-true, cond-false, or_parts, or_from, ltb-true, lt-ltb, le-ltb}
 use Rattle.std.proofs.lemmas.Bool.Decides.{nat_tests}
@@ -8,7 +8,7 @@ use Rattle.records.specs.Keys.{first_of, first_below}
 use Rattle.records.specs.declared.ranges.FreeRange.{FreeRange}
 use Rattle.ranges.specs.Ranges.{within, in_some, apart, at_block, range_at, without}
 use Rattle.ranges.specs.Steps.{Clear}
-use Rattle.ranges.proofs.Apart.{Parts, parts, whole, below_none, apart_lower, within_below, within_above}
+use Rattle.ranges.proofs.Apart.{Parts, parts, whole, below_none, apart_lower, within_above}
 
 or_swap : (a b c : Bool) → (a || (b || c)) ≡ (b || (a || c))
 or_swap true true c = refl

@@ -1,11 +1,10 @@
 -- A range map's answers, from its ranges. Assumes nothing.
-use Rattle.std.proofs.Common.{◌≡◌, ℕ, ◌+◌, ◌-◌, ◌/◌, ◌<◌, ◌≤◌, Bool, true, false, not, ◌&&◌, ◌||◌, ltb, leb, ◌⊎◌, List, [], ◌∷◌, length, Option, sym, refl, ap, ◌∙◌, subst, inl, inr, ⊎_elim, arith}
+use Rattle.std.proofs.Common.{◌≡◌, ℕ, ◌+◌, ◌<◌, ◌≤◌, Bool, true, false, not, ◌&&◌, ltb, ◌⊎◌, List, [], ◌∷◌, length, Option, sym, refl, ap, ◌∙◌, inl, inr, ⊎_elim, arith}
 use Rattle.std.proofs.lemmas.Bool.{cases_Bool, cases_lt, and_from, and_left, and_right, or_left, le-ltb, lt-ltb, ltb-true}
 use Rattle.std.proofs.lemmas.Bool.Decides.{nat_tests}
 use Rattle.ordered.specs.Lent.{records, room}
 use Rattle.ordered.specs.declared.tables.Table.{Table}
 use Rattle.records.specs.declared.ranges.FreeRange.{FreeRange}
-use Rattle.blocks.specs.Meanings.{free}
 use Rattle.blocks.specs.Sets.{count}
 use Rattle.blocks.proofs.Counts.{count_empty, count_full}
 use Rattle.ranges.specs.Maps.{map_of, Sound}

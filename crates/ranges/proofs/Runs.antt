@@ -1,12 +1,12 @@
 -- The ranges of a map are the maximal runs of blocks that it does not own. Assumes nothing.
-use Rattle.std.proofs.Common.{◌≡◌, ℕ, zero, suc, ◌+◌, ◌-◌, ◌<◌, ◌≤◌, Bool, true, false, not, ◌&&◌, ◌||◌, ltb, leb, ◌⊎◌, List, [], ◌∷◌, length, get_or, Some, None, Option, sym, refl, ap, ◌∙◌, subst, inl, inr, ⊎_elim, arith}
+use Rattle.std.proofs.Common.{◌≡◌, ℕ, suc, ◌+◌, ◌-◌, ◌<◌, ◌≤◌, Bool, true, false, not, ◌&&◌, ltb, ◌⊎◌, List, [], ◌∷◌, length, get_or, Some, None, Option, sym, refl, ap, ◌∙◌, inl, inr, arith}
 use Rattle.std.proofs.lemmas.Bool.{both_ways, cases_Bool, cases_order, cond-true, cond-false, not-false, or_from, or_left, and_right, and_from, lt-ltb, ltb-true}
 use Rattle.std.proofs.lemmas.Bool.Decides.{nat_tests}
 use Rattle.records.specs.declared.ranges.FreeRange.{FreeRange}
 use Rattle.ranges.specs.Ranges.{within, in_some, apart, held, range_at, last_before, has, Longest}
 use Rattle.ranges.specs.Runs.{Run, FirstOfLongest, RangesAreRuns}
 use Rattle.ranges.proofs.Apart.{at_most_half, rises}
-use Rattle.ranges.proofs.Laws.{Out, begins_at, removes, none_some, cases_option}
+use Rattle.ranges.proofs.Laws.{Out, begins_at, removes, none_some}
 use Rattle.ranges.proofs.Lasts.{last_is, last_in, at_place, found_longest}
 
 is_free : (n : ℕ) (rs : List FreeRange) (k : ℕ) → in_some rs k ≡ true → held n rs k ≡ false

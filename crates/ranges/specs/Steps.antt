@@ -8,7 +8,7 @@
 --     CutAfter n t b u l     the table u is t without the range that begins right after block b, of l blocks or none
 --     Took n t b u           the table u is t with block b taken
 --     Gave n t b u           the table u is t with block b given back
-use Rattle.std.specs.Prelude.{◌≡◌, ℕ, ◌+◌, ◌/◌, ◌<◌, ◌≤◌, Bool, true, false, ◌||◌, List}
+use Rattle.std.specs.Prelude.{◌≡◌, ℕ, ◌+◌, ◌/◌, ◌<◌, ◌≤◌, true, false, ◌||◌, List}
 use Rattle.blocks.specs.Sets.{Joins}
 use Rattle.ordered.specs.Lent.{records, room}
 use Rattle.ordered.specs.declared.tables.Table.{Table}

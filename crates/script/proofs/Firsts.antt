@@ -1,12 +1,12 @@
 -- The first line of a script, and the make of allocator that it names.
-use Rattle.std.proofs.Common.{◌≡◌, ℕ, zero, suc, ◌<◌, cond, eqb, ◌⊎◌, List, [], ◌∷◌, ◌++◌, length, Some, None, Ok, Err, Option, Result, sym, refl, ap, ◌∙◌, subst, inl, inr, arith, lit≤, eq-eqb, ne_eqb}
+use Rattle.std.proofs.Common.{◌≡◌, ℕ, suc, cond, eqb, List, [], ◌∷◌, ◌++◌, Some, None, Ok, Err, Option, Result, sym, refl, ap, ◌∙◌, subst, inl, inr, arith, lit≤, eq-eqb, ne_eqb}
 use Rattle.std.specs.Result as results
 use Rattle.faults.specs.declared.MemoryCause.{MemoryCause}
 use Rattle.faults.specs.declared.MemoryCause.TheVariants.{BadShape}
 use Rattle.makes.specs.Makes.{Suits}
 use Rattle.makes.specs.declared.Make.{Make}
 use Rattle.makes.specs.declared.Make.TheVariants.{Bits, Ranges}
-use Rattle.script.specs.Consoles.{FirstLine, Names, NamesAllocator}
+use Rattle.script.specs.Consoles.{FirstLine, Names}
 use Rattle.script.specs.Parts.{Without, Splits, Cut}
 use Rattle.script.specs.declared.parts.Part.{Part}
 

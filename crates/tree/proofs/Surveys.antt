@@ -1,10 +1,9 @@
 -- A survey of a path, one depth after the other.
-use Rattle.std.proofs.Common.{◌≡◌, ℕ, zero, suc, ◌+◌, ◌-◌, ◌<◌, ◌≤◌, Bool, true, false, ◌⊎◌, List, length, get_or, set, replicate, Some, None, Option, sym, refl, ap, ◌∙◌, subst, ap₂, inl, inr, ⊎_elim, add-one, arith, length-set, get_or-set_other, get_or-set_same}
-use lib.ListN.{length-replicate}
+use Rattle.std.proofs.Common.{◌≡◌, ℕ, zero, suc, ◌+◌, ◌-◌, ◌<◌, ◌≤◌, Bool, true, false, ◌⊎◌, List, length, get_or, set, replicate, Some, None, Option, sym, refl, ap, ◌∙◌, subst, ap₂, ⊎_elim, add-one, arith, length-set, get_or-set_other, get_or-set_same}
 use Rattle.std.proofs.lemmas.Bool.{cases_eq, false≢true}
 use Rattle.records.specs.declared.rows.Pointer.{Pointer}
 use Rattle.tree.specs.Trees.{block, pointer_in, child, at, digit, on_path}
-use Rattle.tree.specs.Paths.{OnlyChild, OtherChild, Stay, Surveyed}
+use Rattle.tree.specs.Paths.{OnlyChild, OtherChild, Surveyed}
 use Rattle.tree.specs.Steps.{HolesBeside, PointerBeside, Looked}
 use Rattle.tree.proofs.Places.{path_down}
 

@@ -12,7 +12,7 @@
 --     Surveyed                     the old pointers of a path, and how many of its levels a discard keeps
 use Rattle.std.specs.Prelude.{◌≡◌, ℕ, suc, ◌+◌, ◌-◌, ◌*◌, ◌/◌, ◌%◌, ◌^◌, ◌<◌, ◌≤◌, cond, List, [], ◌∷◌, ◌++◌, length, take, drop, replicate, Some, None, Option, ◌≢◌, nat_lt, slice_index_or}
 use Rattle.records.specs.declared.rows.Pointer.{Pointer}
-use Rattle.tree.specs.Trees.{block_size, pointer_size, fan, block, child, at, index_at, digit, on_path, Reaches, Outside}
+use Rattle.tree.specs.Trees.{block_size, pointer_size, fan, block, child, digit, on_path, Reaches, Outside}
 
 -- four bytes, most significant first
 abbrev pub word_bytes : ℕ → List ℕ

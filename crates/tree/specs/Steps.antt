@@ -5,9 +5,9 @@
 --     PointerBeside part k    an indirect block has a pointer at another place than k
 --     Looked mem q k next b   next is what q leads to under index k, and b says whether q leads to others
 --     Linked                  the first d blocks of a new path are written, and no others
-use Rattle.std.specs.Prelude.{◌≡◌, ℕ, suc, ◌+◌, ◌*◌, ◌<◌, ◌≤◌, Bool, true, false, List, length, Some, None, Option, ◌≢◌}
+use Rattle.std.specs.Prelude.{◌≡◌, ℕ, suc, ◌<◌, Bool, true, false, List, length, Some, None, Option, ◌≢◌}
 use Rattle.records.specs.declared.rows.Pointer.{Pointer}
-use Rattle.tree.specs.Trees.{block_size, fan, block, pointer_in, child, digit, on_path, Outside}
+use Rattle.tree.specs.Trees.{fan, block, pointer_in, child, digit, on_path, Outside}
 use Rattle.tree.specs.Paths.{led, with_pointer, new_at, OnlyChild, OtherChild}
 
 abbrev pub LeadsOut : List ℕ → Option Pointer → Type 0

@@ -1,4 +1,4 @@
-use Rattle.std.proofs.Common.{◌≡◌, sym, ◌∙◌}
+use Rattle.std.proofs.Common.{sym, ◌∙◌}
 use Rattle.ranges.proofs.Steps.{in_order, in_place, among}
 use Rattle.ranges.proofs.free.put.Goals as goal
 

@@ -1,4 +1,4 @@
-use Rattle.std.proofs.Common.{◌≡◌, ℕ, length, sym, refl, ap, subst}
+use Rattle.std.proofs.Common.{ℕ, length, sym, refl, ap, subst}
 use Rattle.ordered.specs.Lent.{room}
 use Rattle.ranges.specs.Ranges.{Suits}
 use Rattle.ranges.proofs.Maps.{empty_regular, all_fits, owns_none, new_sound}

@@ -1,4 +1,4 @@
-use Rattle.std.proofs.Common.{◌≡◌, List, length, sym, refl, ap, ◌∙◌, subst, arith}
+use Rattle.std.proofs.Common.{List, length, sym, refl, ap, ◌∙◌, subst, arith}
 use Rattle.ordered.specs.Lent.{records}
 use Rattle.records.specs.declared.ranges.FreeRange.{FreeRange}
 use Rattle.blocks.proofs.Changes.{free_less}
