@@ -3,7 +3,7 @@
 --     FirstOfLongest s n f      f is the first block of the longest run, the lowest among equals
 --     Maximal n rs              the ranges rs are the runs of the blocks that are not owned, and there are few
 --     RangesAreRuns             that holds of all ranges that stand apart
-use Rattle.std.specs.Prelude.{◌≡◌, ℕ, ◌+◌, ◌/◌, ◌<◌, ◌≤◌, Bool, true, false, List, length, get_or, slice_index_or}
+use Rattle.std.specs.Prelude.{◌≡◌, ℕ, ◌+◌, ◌/◌, ◌<◌, ◌≤◌, Bool, true, false, List, length, slice_index_or}
 use Rattle.records.specs.declared.ranges.FreeRange.{FreeRange}
 use Rattle.ranges.specs.Ranges.{apart, held}
 
@@ -25,7 +25,7 @@ pub record FirstOfLongest (s : ℕ → Bool) (n f : ℕ) : Type 0 where
 -- each range is a run, each run is one of the ranges, and at most every second block begins one
 pub record Maximal (n : ℕ) (rs : List FreeRange) : Type 0 where
   pub few : length rs ≤ (n + 1) / 2
-  pub run : (i : ℕ) (d : FreeRange) → i < length rs → Run (held n rs) n (get_or rs i d).first (get_or rs i d).length
+  pub run : (i : ℕ) (d : FreeRange) → i < length rs → Run (held n rs) n (slice_index_or rs i d).first (slice_index_or rs i d).length
   pub range : (f l : ℕ) → Run (held n rs) n f l → (i : ℕ) × (i < length rs) × ((d : FreeRange) → slice_index_or rs i d ≡ record { first = f; length = l })
 
 -- of every size and all ranges

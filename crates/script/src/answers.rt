@@ -1,5 +1,5 @@
 // The lines that answers print.
-ghost use Rattle.std.specs.Prelude.{◌≡◌, ◌+◌, ◌<◌, ◌≤◌, [], length, decimal};
+ghost use Rattle.std.specs.Prelude.{◌≡◌, ◌+◌, ◌≤◌, length, decimal};
 ghost use Rattle.script.specs.Consoles.{told};
 ghost use Rattle.script.specs.Shown.{Put, Buffer, shown, shown_change, shown_fault};
 

@@ -1,5 +1,5 @@
 // Words of a line, which are parts of the script.
-ghost use Rattle.std.specs.Prelude.{◌≡◌, ◌+◌, ◌^◌, ◌<◌, length, MatchOption, ◌≢◌};
+ghost use Rattle.std.specs.Prelude.{◌≢◌, ◌+◌, ◌^◌, ◌<◌, length, MatchOption};
 ghost use Rattle.script.specs.Words.{Writes, Numeral, IsWord, TwoWords, words};
 
 use crate::parts::{Part, cut};
