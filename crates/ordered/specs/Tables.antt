@@ -10,11 +10,10 @@
 --     Alone                               two lists of records differ at one key alone
 --     either r                            the index in an answer of the search
 --     answer, after                       what an insertion answers, and the records that it leaves
---     WhereRefused, WherePlaced           what is known where an insertion was refused, and where it was not
 use Rattle.std.specs.Prelude.{◌≡◌, ℕ, suc, ◌+◌, ◌-◌, ◌<◌, Bool, false, cond, not, ◌&&◌, ◌||◌, List, [], ◌∷◌, length, is_some, Some, None, Ok, Err, filter, Option, Result, ◌==◌, nat_le, nat_lt, slice_index_or}
 use Rattle.std.specs.Option.{option_map}
-use Rattle.ordered.specs.declared.places.Insertion.{Insertion}
-use Rattle.ordered.specs.declared.places.Insertion.TheVariants.{Present, Full, Placed}
+use Rattle.ordered.specs.declared.tables.InsertError.{InsertError}
+use Rattle.ordered.specs.declared.tables.InsertError.TheVariants.{Present, Full}
 
 -- neither key is below the other
 abbrev pub same : {K : Type 0} → (K → K → Bool) → K → K → Bool
@@ -77,23 +76,10 @@ either (Ok i) = i
 either (Err i) = i
 
 -- what an insertion answers in a table with room for `room` records: present, else full, else placed
-abbrev pub answer : {R K : Type 0} → (R → K) → (K → K → Bool) → ℕ → List R → R → Insertion
-answer key below room xs r = cond (is_some (index_of key below xs (key r))) Present (cond (nat_lt (length xs) room) Placed Full)
+abbrev pub answer : {R K : Type 0} → (R → K) → (K → K → Bool) → ℕ → List R → R → Result (Unit {0}) InsertError
+answer key below room xs r = cond (is_some (index_of key below xs (key r))) (Err Present) (cond (nat_lt (length xs) room) (Ok tt) (Err Full))
 
 -- the records after that answer
-abbrev pub after : {R K : Type 0} → (R → K) → (K → K → Bool) → List R → R → Insertion → List R
-after key below xs r Present = xs
-after key below xs r Full = xs
-after key below xs r Placed = with_record key below xs r
-
--- P, where nothing was placed
-abbrev pub WhereRefused : Insertion → Type 0 → Type 0
-WhereRefused Present P = P
-WhereRefused Full P = P
-WhereRefused Placed P = Unit {0}
-
--- P, where the record was placed
-abbrev pub WherePlaced : Insertion → Type 0 → Type 0
-WherePlaced Present P = Unit {0}
-WherePlaced Full P = Unit {0}
-WherePlaced Placed P = P
+abbrev pub after : {R K : Type 0} → (R → K) → (K → K → Bool) → List R → R → Result (Unit {0}) InsertError → List R
+after key below xs r (Ok _) = with_record key below xs r
+after key below xs r (Err _) = xs

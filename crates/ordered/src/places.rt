@@ -10,16 +10,6 @@ use crate::keys::Key;
 use crate::records::Record;
 use std::cmp::Ordering;
 
-// What an insertion came to.
-#[derive(Clone, Copy, Debug, PartialEq, Eq)]
-pub enum Insertion {
-    // A record with that key was there already.
-    Present,
-    // No place was left.
-    Full,
-    Placed,
-}
-
 // The middle of the places from `low` on and before `high`.
 fn halfway(low: usize, high: usize) -> usize
     requires { low < high }

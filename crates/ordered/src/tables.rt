@@ -1,15 +1,23 @@
 // A table of records in places that the caller lends. The first `count` places hold its records, in the order of their
 // keys; what stands in the others means nothing. Every call returns, whatever the places hold and whatever the count is.
-ghost use Rattle.std.specs.Prelude.{◌≡◌, ◌+◌, ◌-◌, ◌<◌, ◌≤◌, min, true, false, [], length, is_some, IfSome, if◌then◌else◌, Some, None, nat_le, slice_index_or, slice_set};
+ghost use Rattle.std.specs.Prelude.{◌≡◌, ◌+◌, ◌-◌, ◌<◌, ◌≤◌, min, true, false, [], length, is_some, IfSome, OnErr, OnOk, if◌then◌else◌, Some, None, nat_le, slice_index_or, slice_set};
 ghost use Rattle.std.specs.List.{between, insert, remove};
 ghost use Rattle.ordered.specs.Lent.{KeptPast, Ordered, Unchanged, records, room};
 ghost use Rattle.ordered.specs.Order.{Holds};
-ghost use Rattle.ordered.specs.Tables.{Alone, WherePlaced, WhereRefused, index_of, rank_of, record_of, part_of, with_record, without_key, replaced, fits_at, fits_over, answer, after};
+ghost use Rattle.ordered.specs.Tables.{Alone, index_of, rank_of, record_of, part_of, with_record, without_key, replaced, fits_at, fits_over, answer, after};
 
 use crate::keys::{Key, is_below};
 use crate::places;
-use crate::places::Insertion;
 use crate::records::Record;
+
+// Why a record was not put in.
+#[derive(Clone, Copy, Debug, PartialEq, Eq)]
+pub enum InsertError {
+    // A record with that key is there already.
+    Present,
+    // No place is left.
+    Full,
+}
 
 #[derive(Drop)]
 pub struct Table<'m, R> {
@@ -87,21 +95,21 @@ impl<'m, R: Record> Table<'m, R> {
     }
 
     // Puts the record at its place, unless one with its key is there or no place is left.
-    pub fn insert(&mut self, added: R) -> Insertion
+    pub fn insert(&mut self, added: R) -> Result<(), InsertError>
         ensures value { Ordered R.keyed R.Key.Key.below self.old → result ≡ answer R.keyed R.Key.Key.below (room self.old) (records self.old) added }
         ensures items { Ordered R.keyed R.Key.Key.below self.old → records self.new ≡ after R.keyed R.Key.Key.below (records self.old) added result }
-        ensures alone { Ordered R.keyed R.Key.Key.below self.old → WherePlaced result (Alone R.keyed R.Key.Key.below (records self.old) (records self.new) (R.keyed added) (Some added)) }
+        ensures alone { Ordered R.keyed R.Key.Key.below self.old → OnOk result (Alone R.keyed R.Key.Key.below (records self.old) (records self.new) (R.keyed added) (Some added)) }
         ensures ordered { Ordered R.keyed R.Key.Key.below self.old → Ordered R.keyed R.Key.Key.below self.new }
-        ensures kept { WhereRefused result (Unchanged self.old self.new) }
+        ensures kept { OnErr result (Unchanged self.old self.new) }
         ensures past { KeptPast self.old self.new }
         ensures room { room self.new ≡ room self.old }
     {
         match places::locate(self.records(), added.key()) {
-            Ok(_) => Insertion::Present,
-            Err(_) if self.is_full() => Insertion::Full,
+            Ok(_) => Err(InsertError::Present),
+            Err(_) if self.is_full() => Err(InsertError::Full),
             Err(at) => {
                 self.put_in(at, added);
-                Insertion::Placed
+                Ok(())
             }
         }
     }

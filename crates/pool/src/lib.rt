@@ -16,7 +16,6 @@ ghost use Rattle.pool.specs.Pools.{state_of, RowsOrdered, HasPlace};
 
 use faults::{Layer, MemoryCause, PoolCause};
 use model::Changed;
-use ordered::places::Insertion;
 use ordered::tables::Table;
 use records::rows::{Kind, Row};
 
@@ -73,9 +72,6 @@ impl<'m> Pool<'m> {
     fn add_row(&mut self, row: Row) -> Result<(), PoolCause>
         ensures adds { RowsOrdered self.old.rows → HasPlace self.old.rows row → (result ≡ Ok tt) × (state_of self.new ≡ with_row (state_of self.old) row) }
     {
-        match self.rows.insert(row) {
-            Insertion::Placed => Ok(()),
-            _ => Err(PoolCause::NoPool),
-        }
+        self.rows.insert(row).map_err(|_| PoolCause::NoPool)
     }
 }

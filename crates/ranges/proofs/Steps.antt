@@ -1,12 +1,11 @@
 -- The steps of a take and a give, on maximal ranges and on the table that holds them. Assumes nothing.
-use Rattle.std.proofs.Common.{◌≡◌, ℕ, ◌+◌, ◌-◌, ◌<◌, ◌≤◌, Bool, true, false, not, ◌&&◌, ◌||◌, ltb, ◌⊎◌, List, length, get_or, is_some, Some, None, Option, sym, refl, ap, ◌∙◌, subst, inl, inr, ⊎_elim, arith}
+use Rattle.std.proofs.Common.{◌≡◌, ℕ, ◌+◌, ◌-◌, ◌<◌, ◌≤◌, Bool, true, false, not, ◌&&◌, ◌||◌, ltb, ◌⊎◌, List, length, get_or, is_some, Some, None, Option, Ok, Result, sym, refl, ap, ◌∙◌, subst, inl, inr, ⊎_elim, arith}
 use Rattle.std.proofs.lemmas.Bool.{both_ways, cases_eq, cases_lt, cond-true, cond-false, or_parts, or_from, or_left, and_parts, and_right, and_from, not-true, lt-ltb, ltb-true}
 use Rattle.std.proofs.lemmas.Bool.Decides.{nat_tests}
 use Rattle.ordered.specs.Lent.{Ordered, records, room}
 use Rattle.ordered.specs.Tables.{answer, after}
 use Rattle.ordered.specs.declared.tables.Table.{Table}
-use Rattle.ordered.specs.declared.places.Insertion.{Insertion}
-use Rattle.ordered.specs.declared.places.Insertion.TheVariants.{Placed}
+use Rattle.ordered.specs.declared.tables.InsertError.{InsertError}
 use Rattle.ordered.proofs.Lookups.{found, missing}
 use Rattle.records.specs.Keys.{first_of, first_below}
 use Rattle.records.specs.declared.ranges.FreeRange.{FreeRange}
@@ -65,7 +64,7 @@ module _ (n : ℕ) (t : Table FreeRange) (r : FreeRange) (s : Regular n t) where
         go (inr (i, at)) = settled u same (e ∙ swapped 0 n (records t) (get_or (records t) i r) r s.maximal (there i at))
 
     -- a place is always left
-    pub among : (v u : Table FreeRange) (a : Insertion) → room v ≡ room t → room u ≡ room v → false ≡ is_some (place_at (records t) r.first) → records v ≡ over_range (records t) r
+    pub among : (v u : Table FreeRange) (a : Result (Unit {0}) InsertError) → room v ≡ room t → room u ≡ room v → false ≡ is_some (place_at (records t) r.first) → records v ≡ over_range (records t) r
         → a ≡ answer first_of first_below (room v) (records v) r → records u ≡ after first_of first_below (records v) r a → Put n t u r
     among v u a same-v same-u is kept value items = go (cases_option (place_at (records t) r.first))
       where
@@ -78,7 +77,7 @@ module _ (n : ℕ) (t : Table FreeRange) (r : FreeRange) (s : Regular n t) where
             let more = added.longer in
             let shorter : length (without (records t) r.first) ≡ length (records t) = ap length m.less in
             let left : length (records v) < room v = omega (arith, ap length e, s.places) in
-            let placed : a ≡ Placed = value ∙ cond-false _ _ _ (ap (λ (l : List FreeRange). is_some (place_at l r.first)) e ∙ ap is_some none) ∙ cond-true _ _ _ (lt-ltb (length (records v)) (room v) left) in
+            let placed : a ≡ Ok tt = value ∙ cond-false _ _ _ (ap (λ (l : List FreeRange). is_some (place_at l r.first)) e ∙ ap is_some none) ∙ cond-true _ _ _ (lt-ltb (length (records v)) (room v) left) in
             settled u (same-u ∙ same-v) (items ∙ ap (after first_of first_below (records v) r) placed ∙ ap (λ (l : List FreeRange). with_range l r) (e ∙ sym m.less))
 
 -- a range put in the place of the one that begins at block b, if any

@@ -1,6 +1,5 @@
 use crate::dead::{DeadKey, DeadRecord};
-use ordered::places::Insertion;
-use ordered::tables::Table;
+use ordered::tables::{InsertError, Table};
 
 fn dead(dataset: u32, birth: u32, block: u32) -> DeadRecord {
     DeadRecord {
@@ -23,11 +22,11 @@ fn key(dataset: u32, birth: u32, block: u32) -> DeadKey {
 fn inserted_in_order(rt: HostRuntime) {
     let mut places = [dead(0, 0, 0); 3];
     let mut table = Table::new(&mut places);
-    assert_eq!(rt; table.insert(dead(2, 1, 9)), Insertion::Placed);
-    assert_eq!(rt; table.insert(dead(1, 7, 4)), Insertion::Placed);
-    assert_eq!(rt; table.insert(dead(1, 7, 4)), Insertion::Present);
-    assert_eq!(rt; table.insert(dead(1, 6, 8)), Insertion::Placed);
-    assert_eq!(rt; table.insert(dead(3, 1, 1)), Insertion::Full);
+    assert_eq!(rt; table.insert(dead(2, 1, 9)), Ok(()));
+    assert_eq!(rt; table.insert(dead(1, 7, 4)), Ok(()));
+    assert_eq!(rt; table.insert(dead(1, 7, 4)), Err(InsertError::Present));
+    assert_eq!(rt; table.insert(dead(1, 6, 8)), Ok(()));
+    assert_eq!(rt; table.insert(dead(3, 1, 1)), Err(InsertError::Full));
     assert_eq!(rt; table.find(key(1, 6, 8)), Some(0));
     assert_eq!(rt; table.find(key(1, 7, 4)), Some(1));
     assert_eq!(rt; table.find(key(2, 1, 9)), Some(2));
@@ -39,9 +38,9 @@ fn inserted_in_order(rt: HostRuntime) {
 fn removed_alone(rt: HostRuntime) {
     let mut places = [dead(0, 0, 0); 4];
     let mut table = Table::new(&mut places);
-    assert_eq!(rt; table.insert(dead(5, 2, 3)), Insertion::Placed);
-    assert_eq!(rt; table.insert(dead(5, 1, 7)), Insertion::Placed);
-    assert_eq!(rt; table.insert(dead(4, 9, 9)), Insertion::Placed);
+    assert_eq!(rt; table.insert(dead(5, 2, 3)), Ok(()));
+    assert_eq!(rt; table.insert(dead(5, 1, 7)), Ok(()));
+    assert_eq!(rt; table.insert(dead(4, 9, 9)), Ok(()));
     assert_eq!(rt; table.remove(key(5, 1, 7)), Some(dead(5, 1, 7)));
     assert_eq!(rt; table.remove(key(5, 1, 7)), None);
     assert_eq!(rt; table.get(key(5, 1, 7)), None);
@@ -54,10 +53,10 @@ fn removed_alone(rt: HostRuntime) {
 fn part_of_a_dataset(rt: HostRuntime) {
     let mut places = [dead(0, 0, 0); 4];
     let mut table = Table::new(&mut places);
-    assert_eq!(rt; table.insert(dead(7, 3, 2)), Insertion::Placed);
-    assert_eq!(rt; table.insert(dead(6, 1, 1)), Insertion::Placed);
-    assert_eq!(rt; table.insert(dead(7, 1, 5)), Insertion::Placed);
-    assert_eq!(rt; table.insert(dead(8, 1, 0)), Insertion::Placed);
+    assert_eq!(rt; table.insert(dead(7, 3, 2)), Ok(()));
+    assert_eq!(rt; table.insert(dead(6, 1, 1)), Ok(()));
+    assert_eq!(rt; table.insert(dead(7, 1, 5)), Ok(()));
+    assert_eq!(rt; table.insert(dead(8, 1, 0)), Ok(()));
     let (part, before) = table.part(key(7, 0, 0), key(8, 0, 0));
     assert_eq!(rt; before, 1);
     assert_eq!(rt; part.len(), 2);
