@@ -1,7 +1,10 @@
--- What a total order says of `below` and `same`. Assumes nothing.
-use Rattle.std.proofs.Common.{◌≡◌, Bool, true, false, not, ◌⊎◌, sym, ◌∙◌, inl, inr, true≢false}
+-- What a total order says of `below`, `same` and `cmp`. Assumes nothing.
+use Rattle.std.proofs.Common.{◌≡◌, Bool, true, false, not, ◌⊎◌, Some, Option, sym, ap, ◌∙◌, inl, inr, true≢false}
 use Rattle.std.proofs.lemmas.Bool.{cases_Bool, and_parts, and_left, and_right, and_from, not_from_true, not_from_false}
-use Rattle.ordered.specs.Order.{ExactlyOne, Holds}
+use Rattle.std.specs.Ordering.{MatchOrdering, is_lt, is_some_and, partial_lt}
+use Rattle.std.specs.declared.cmp.Ordering.{Ordering}
+use Rattle.std.specs.declared.cmp.Ordering.TheVariants.{Less, Equal, Greater}
+use Rattle.ordered.specs.Order.{ExactlyOne, Holds, IsStrictPart}
 use Rattle.ordered.specs.Tables.{same}
 
 module _ {K : Type 0} (below : K → K → Bool) (one : (a b : K) → ExactlyOne (Holds below a b) (a ≡ b) (Holds below b a)) where
@@ -47,3 +50,17 @@ module _ {K : Type 0} (below : K → K → Bool) (one : (a b : K) → ExactlyOne
       go (inl p) = absurd (true≢false (sym p.0 ∙ n))
       go (inr (inl p)) = absurd (true≢false (sym (same_equal a b p.1) ∙ s))
       go (inr (inr p)) = p.2
+
+-- a test by `cmp` is that by `below`
+pub less_below : {K : Type 0} (below : K → K → Bool) (cmp : K → K → Ordering) → IsStrictPart below cmp → (a b : K) → is_lt (cmp a b) ≡ below a b
+less_below below cmp order a b = go (cmp a b) (order.tells a b)
+  where
+    go : (o : Ordering) → MatchOrdering o (Holds below a b) (a ≡ b) (Holds below b a) → is_lt o ≡ below a b
+    go Less h = sym h
+    go Equal h = sym (not_itself below order.one a b h)
+    go Greater h = sym (not_above below order.one b a h)
+
+-- and so is one by `partial_cmp`, where it answers what `cmp` does
+pub lt_below : {K : Type 0} (below : K → K → Bool) (cmp : K → K → Ordering) (partial : K → K → Option Ordering) → IsStrictPart below cmp → ((a b : K) → partial a b ≡ Some (cmp a b))
+    → (a b : K) → partial_lt partial a b ≡ below a b
+lt_below below cmp partial order agrees a b = ap (is_some_and is_lt) (agrees a b) ∙ less_below below cmp order a b

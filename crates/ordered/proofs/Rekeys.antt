@@ -8,7 +8,7 @@ use Rattle.ordered.specs.Tables.{Ascending, index_of, with_record, without_key, 
 use Rattle.ordered.proofs.Calls.{placed}
 use Rattle.ordered.proofs.Edits.{ascending_without}
 use Rattle.ordered.proofs.Lookups.{found}
-use Rattle.ordered.proofs.Search.{Narrowed, missed_index, missed_rank}
+use Rattle.ordered.proofs.Search.{Parted, missed_index, missed_rank}
 
 -- an exchange, as a step out and a step in
 pub set_inserted : {R : Type 0} (xs : List R) (i : ℕ) (r : R) → i < length xs → set xs i r ≡ insert (remove xs i) i r
@@ -39,8 +39,8 @@ module _ {R K : Type 0} (key : R → K) (below : K → K → Bool) (one : (a b :
   long = length-remove xs i within
 
   -- the others, by the new key
-  narrowed : Narrowed key below (remove xs i) (key new) i i
-  narrowed = (
+  parted : Parted key below (remove xs i) (key new) i
+  parted = (
     λ j d lt. subst (λ x. Holds below (key x) (key new)) (sym (get_or-remove_below xs i d j lt within)) (before j d lt),
     λ j d le lt. subst (λ x. Holds below (key new) (key x)) (sym (get_or-remove_above xs i d j le within)) (behind (j + 1) d (omega arith) (omega (arith, long))),
   )
@@ -52,6 +52,6 @@ module _ {R K : Type 0} (key : R → K) (below : K → K → Bool) (one : (a b :
   rekeyed ys e =
       let le : i ≤ length (remove xs i) = omega (arith, long) in
       let rest = subst (Ascending key (Holds below)) less (ascending_without key below one chain xs k up) in
-      let c = placed key below one chain (remove xs i) ys rest new i (sym (missed_index key below one chain (remove xs i) (key new) i le narrowed))
-      (missed_rank key below one chain (remove xs i) (key new) i le narrowed) (e ∙ set_inserted xs i new within) in
+      let c = placed key below one chain (remove xs i) ys rest new i (sym (missed_index key below one (remove xs i) (key new) i le parted))
+      (missed_rank key below one (remove xs i) (key new) i le parted) (e ∙ set_inserted xs i new within) in
       (c.items ∙ ap (λ vs. with_record key below vs new) (sym less), c.ascending)

@@ -1,67 +1,65 @@
 -- A binary search in ascending records. Assumes nothing.
-use Rattle.std.proofs.Common.{◌≡◌, ℕ, ◌+◌, ◌<◌, ◌≤◌, Bool, false, ◌⊎◌, List, length, get_or, Some, None, sym, ap, ◌∙◌, subst, inl, inr, arith}
-use Rattle.std.proofs.lemmas.List.{get_or_read}
+use Rattle.std.proofs.Common.{◌≡◌, ℕ, ◌+◌, ◌<◌, ◌≤◌, Bool, false, ◌⊎◌, List, length, get_or, Some, None, Result, Ok, Err, sym, ap, ◌∙◌, subst, inl, inr, arith}
+use Rattle.std.specs.Cmp.{IsTotalOrder}
+use Rattle.std.specs.List.Sorted.{IsBinarySearchResult, IsNonDecreasingBy, IsSearchInRange}
+use Rattle.std.specs.Ordering.{MatchOrdering, ordering_index}
+use Rattle.std.specs.Result.{result_ok}
+use Rattle.std.specs.declared.cmp.Ordering.{Ordering}
+use Rattle.std.specs.declared.cmp.Ordering.TheVariants.{Less, Equal, Greater}
 use Rattle.std.proofs.lemmas.Bool.{cases_eq, cases_lt}
-use Rattle.ordered.specs.Order.{ExactlyOne, Holds}
-use Rattle.ordered.specs.Tables.{Ascending, same, index_of, rank_of}
+use Rattle.std.proofs.lemmas.List.Sorted.{searchable_from_sorted}
+use Rattle.ordered.specs.Order.{ExactlyOne, Holds, IsStrictPart}
+use Rattle.ordered.specs.Tables.{Ascending, same, index_of, rank_of, either}
 use Rattle.ordered.proofs.Lookups.{at_index, no_index, ranked}
-use Rattle.ordered.proofs.Orders.{not_above, not_itself, same_equal, same_below, same_above}
+use Rattle.ordered.proofs.Orders.{not_above, not_itself, same_equal, same_below, same_above, less_below}
 
--- records before `low` lie below k, and those from `high` on above
-abbrev pub Narrowed : {R K : Type 0} → (R → K) → (K → K → Bool) → List R → K → ℕ → ℕ → Type 0
-Narrowed {R} key below xs k low high =
-    ((j : ℕ) (d : R) → j < low → Holds below (key (get_or xs j d)) k) × ((j : ℕ) (d : R) → high ≤ j → j < length xs → Holds below k (key (get_or xs j d)))
+-- the records before i lie below k, and those from i on above
+abbrev pub Parted : {R K : Type 0} → (R → K) → (K → K → Bool) → List R → K → ℕ → Type 0
+Parted {R} key below xs k i =
+    ((j : ℕ) (d : R) → j < i → Holds below (key (get_or xs j d)) k) × ((j : ℕ) (d : R) → i ≤ j → j < length xs → Holds below k (key (get_or xs j d)))
 
-module _ {R K : Type 0} (key : R → K) (below : K → K → Bool) (one : (a b : K) → ExactlyOne (Holds below a b) (a ≡ b) (Holds below b a))
-    (chain : (a b c : K) → Holds below a b → Holds below b c → Holds below a c) (xs : List R) (k : K) where
-  -- a look at the record at i: it is x, and has the key a
-  module _ (i : ℕ) (within : i < length xs) {x : R} (read : x ≡ get_or xs i x) {a : K} (has : a ≡ key x) (up : Ascending key (Holds below) xs) where
-    is : (d : R) → a ≡ key (get_or xs i d)
-    is d = has ∙ ap key (get_or_read xs i x within read d)
+module _ {R K : Type 0} (key : R → K) (below : K → K → Bool) (one : (a b : K) → ExactlyOne (Holds below a b) (a ≡ b) (Holds below b a)) (xs : List R) (k : K) where
+  -- the record at i has the key
+  module _ (i : ℕ) (within : i < length xs) (has : (d : R) → key (get_or xs i d) ≡ k) (up : Ascending key (Holds below) xs) where
+    under : (j : ℕ) (d : R) → j < i → Holds below (key (get_or xs j d)) k
+    under j d lt = subst (Holds below (key (get_or xs j d))) (has d) (up j i d lt within)
 
-    before : (j : ℕ) (d : R) → j < i → Holds below (key (get_or xs j d)) a
-    before j d lt = subst (Holds below (key (get_or xs j d))) (sym (is d)) (up j i d lt within)
+    over : (j : ℕ) (d : R) → j < length xs → (i ≡ j) ⊎ (i ≡ j → ⊥) → i ≤ j → below (key (get_or xs j d)) k ≡ false
+    over j d lt (inl e) le = not_itself below one _ _ (ap (λ m. key (get_or xs m d)) (sym e) ∙ has d)
+    over j d lt (inr ne) le = not_above below one k _ (subst (λ b. Holds below b (key (get_or xs j d))) (has d) (up i j d (omega arith) lt))
 
-    behind : (j : ℕ) (d : R) → i < j → j < length xs → Holds below a (key (get_or xs j d))
-    behind j d gt lt = subst (λ b. Holds below b (key (get_or xs j d))) (sym (is d)) (up i j d gt lt)
+    found_index : Some i ≡ index_of key below xs k
+    found_index = sym (at_index key below xs k i within (λ j d lt. same_below below one _ _ (under j d lt)) (λ d. same_equal below one _ _ (has d)))
 
-    pub narrowed_up : Holds below a k → (low high : ℕ) → Narrowed key below xs k low high → Narrowed key below xs k (i + 1) high
-    narrowed_up less low high n = (λ j d lt. at j d (cases_eq j i) lt, n.1)
-      where
-        at : (j : ℕ) (d : R) → (j ≡ i) ⊎ (j ≡ i → ⊥) → j < i + 1 → Holds below (key (get_or xs j d)) k
-        at j d (inl e) lt = subst (λ b. Holds below b k) (is d ∙ ap (λ m. key (get_or xs m d)) (sym e)) less
-        at j d (inr ne) lt = chain _ _ _ (before j d (omega arith)) less
+    found_rank : i ≡ rank_of key below xs k
+    found_rank = sym (ranked key below xs k i (omega arith) under (λ j d le lt. over j d lt (cases_eq i j) le))
 
-    pub narrowed_down : Holds below k a → (low high : ℕ) → Narrowed key below xs k low high → Narrowed key below xs k low i
-    narrowed_down more low high n = (n.0, λ j d le lt. at j d (cases_eq i j) le lt)
-      where
-        at : (j : ℕ) (d : R) → (i ≡ j) ⊎ (i ≡ j → ⊥) → i ≤ j → j < length xs → Holds below k (key (get_or xs j d))
-        at j d (inl e) le lt = subst (Holds below k) (is d ∙ ap (λ m. key (get_or xs m d)) e) more
-        at j d (inr ne) le lt = chain _ _ _ more (behind j d (omega arith) lt)
-
-    -- the search found the key
-    module _ (same_key : a ≡ k) where
-      under : (j : ℕ) (d : R) → j < i → Holds below (key (get_or xs j d)) k
-      under j d lt = subst (Holds below (key (get_or xs j d))) same_key (before j d lt)
-
-      pub found_index : Some i ≡ index_of key below xs k
-      found_index = sym (at_index key below xs k i within (λ j d lt. same_below below one _ _ (under j d lt)) (λ d. same_equal below one _ _ (sym (is d) ∙ same_key)))
-
-      pub found_rank : i ≡ rank_of key below xs k
-      found_rank = sym (ranked key below xs k i (omega arith) under (λ j d le lt. over j d lt (cases_eq i j) le))
-        where
-          over : (j : ℕ) (d : R) → j < length xs → (i ≡ j) ⊎ (i ≡ j → ⊥) → i ≤ j → below (key (get_or xs j d)) k ≡ false
-          over j d lt (inl e) le = not_itself below one _ _ (ap (λ m. key (get_or xs m d)) (sym e) ∙ sym (is d) ∙ same_key)
-          over j d lt (inr ne) le = not_above below one k _ (subst (λ b. Holds below b (key (get_or xs j d))) same_key (behind j d (omega arith) lt))
-
-  -- the search found nothing
-  module _ (i : ℕ) (within : i ≤ length xs) (n : Narrowed key below xs k i i) where
+  -- none has it
+  module _ (i : ℕ) (within : i ≤ length xs) (p : Parted key below xs k i) where
     pub missed_index : None ≡ index_of key below xs k
     missed_index = sym (no_index key below xs k (λ j d lt. apart j d lt (cases_lt j i)))
       where
         apart : (j : ℕ) (d : R) → j < length xs → (j < i) ⊎ (i ≤ j) → same below (key (get_or xs j d)) k ≡ false
-        apart j d lt (inl l) = same_below below one _ _ (n.0 j d l)
-        apart j d lt (inr g) = same_above below one _ _ (n.1 j d g lt)
+        apart j d lt (inl l) = same_below below one _ _ (p.0 j d l)
+        apart j d lt (inr g) = same_above below one _ _ (p.1 j d g lt)
 
     pub missed_rank : i ≡ rank_of key below xs k
-    missed_rank = sym (ranked key below xs k i within n.0 (λ j d le lt. not_above below one k _ (n.1 j d le lt)))
+    missed_rank = sym (ranked key below xs k i within p.0 (λ j d le lt. not_above below one k _ (p.1 j d le lt)))
+
+-- std's search, by `cmp` with the key
+module _ {R K : Type 0} (key : R → K) (below : K → K → Bool) (cmp : K → K → Ordering) (order : IsStrictPart below cmp) (total : IsTotalOrder cmp) (xs : List R) (k : K)
+    (up : Ascending key (Holds below) xs) where
+  told : (a : K) (o : Ordering) → cmp a k ≡ o → MatchOrdering o (Holds below a k) (a ≡ k) (Holds below k a)
+  told a o e = subst (λ o. MatchOrdering o (Holds below a k) (a ≡ k) (Holds below k a)) e (order.tells a k)
+
+  rises : IsNonDecreasingBy (λ x. ordering_index (cmp (key x) k)) xs
+  rises = searchable_from_sorted total key xs k (λ j d lo lt. less_below below cmp order _ _ ∙ not_above below order.one _ _ (up j (j + 1) d (omega arith) lt))
+
+  pub searched : (r : Result ℕ ℕ) → IsSearchInRange r (length xs) → IsBinarySearchResult (λ x. cmp (key x) k) xs r
+      → (result_ok r ≡ index_of key below xs k) × (either r ≡ rank_of key below xs k)
+  searched (Ok i) within at =
+      let has = λ (d : R). told _ Equal (at d) in (found_index key below order.one xs k i within has up, found_rank key below order.one xs k i within has up)
+  searched (Err i) within at =
+      let parts = at rises in
+      let p : Parted key below xs k i = (λ j d lt. told _ Less (parts.0 j d (omega arith) lt), λ j d le lt. told _ Greater (parts.1 j d le lt)) in
+      (missed_index key below order.one xs k i within p, missed_rank key below order.one xs k i within p)

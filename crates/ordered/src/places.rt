@@ -8,16 +8,6 @@ ghost use Rattle.ordered.specs.Tables.{Ascending, index_of, rank_of, either};
 
 use crate::keys::Key;
 use crate::records::Record;
-use std::cmp::Ordering;
-
-// The middle of the places from `low` on and before `high`.
-fn halfway(low: usize, high: usize) -> usize
-    requires { low < high }
-    ensures low_bound { low + high ≤ 2 * result + 1 }
-    ensures high_bound { 2 * result ≤ low + high }
-{
-    low + (high - low) / 2
-}
 
 // Where the record with that key stands, or where it belongs.
 pub(crate) fn locate<R: Record>(among: &[R], key: R::Key) -> Result<usize, usize>
@@ -25,17 +15,7 @@ pub(crate) fn locate<R: Record>(among: &[R], key: R::Key) -> Result<usize, usize
     ensures finds { Ascending R.keyed (Holds R.Key.Key.below) among.now → result_ok result ≡ index_of R.keyed R.Key.Key.below among.now key }
     ensures ranks { Ascending R.keyed (Holds R.Key.Key.below) among.now → either result ≡ rank_of R.keyed R.Key.Key.below among.now key }
 {
-    let mut low = 0;
-    let mut high = among.len();
-    while low < high {
-        let middle = halfway(low, high);
-        match among[middle].key().compare(key) {
-            Ordering::Less => low = middle + 1,
-            Ordering::Equal => return Ok(middle),
-            Ordering::Greater => high = middle,
-        }
-    }
-    Err(low)
+    among.binary_search_by(|record| record.key().cmp(&key))
 }
 
 // Puts the record at that place.

@@ -6,7 +6,7 @@ ghost use Rattle.ordered.specs.Lent.{KeptPast, Ordered, Unchanged, records, room
 ghost use Rattle.ordered.specs.Order.{Holds};
 ghost use Rattle.ordered.specs.Tables.{Alone, index_of, rank_of, record_of, part_of, with_record, without_key, replaced, fits_at, fits_over, answer, after};
 
-use crate::keys::{Key, is_below};
+use crate::keys::Key;
 use crate::places;
 use crate::records::Record;
 
@@ -205,8 +205,8 @@ impl<'m, R: Record> Table<'m, R> {
         ensures value { (d : R) → result ≡ fits_at R.keyed R.Key.Key.below (records self.now) d key at }
     {
         let count = self.len();
-        let above = at == 0 || is_below(self.at(at - 1).key(), key);
-        above && (at + 1 >= count || is_below(key, self.at(at + 1).key()))
+        let above = at == 0 || self.at(at - 1).key() < key;
+        above && (at + 1 >= count || key < self.at(at + 1).key())
     }
 
     // The records from one index on and before another.

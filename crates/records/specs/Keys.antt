@@ -5,7 +5,6 @@
 use Rattle.std.specs.Prelude.{ℕ, Bool, ◌&&◌, ◌||◌, ◌==◌, nat_lt}
 use Rattle.records.specs.declared.rows.Row.{Row}
 use Rattle.records.specs.declared.dead.DeadRecord.{DeadRecord}
-use Rattle.records.specs.declared.dead.DeadKey.{DeadKey}
 use Rattle.records.specs.declared.ranges.FreeRange.{FreeRange}
 use Rattle.records.specs.declared.ranges.FirstBlock.{FirstBlock}
 
@@ -14,11 +13,11 @@ abbrev pub number_of : Row → ℕ
 number_of r = r.number
 
 -- all that a dead record holds
-abbrev pub dead_key : DeadRecord → DeadKey
-dead_key r = record { dataset = r.dataset; birth = r.birth; block = r.block }
+abbrev pub dead_key : DeadRecord → DeadRecord
+dead_key r = r
 
 -- a lower dataset, else a lower birth, else a lower block
-abbrev pub dead_below : DeadKey → DeadKey → Bool
+abbrev pub dead_below : DeadRecord → DeadRecord → Bool
 dead_below a b =
     nat_lt a.dataset b.dataset
     || (a.dataset == b.dataset && (nat_lt a.birth b.birth || (a.birth == b.birth && nat_lt a.block b.block)))

@@ -1,55 +1,31 @@
-// Dead records, found by dataset, birth and block.
+// Dead records, found by all that they hold.
 ghost use Rattle.records.specs.Keys.{dead_key, dead_below};
 ghost use Rattle.std.proofs.Common.{rules};
 
 use ordered::keys::Key;
 use ordered::records::Record;
-use std::cmp::Ordering;
 
-// A block that the previous of a dataset reaches and the dataset does not.
-#[derive(Clone, Copy, Debug, PartialEq, Eq)]
+// A block that the previous of a dataset reaches and the dataset does not. It is its own key: dataset comes before
+// birth, and birth before block.
+#[derive(Clone, Copy, Debug, PartialEq, Eq, PartialOrd, Ord)]
 pub struct DeadRecord {
     pub dataset: u32,
     pub birth: u32,
     pub block: u32,
 }
 
-// What a dead record is found by.
-#[derive(Clone, Copy, Debug, PartialEq, Eq)]
-pub struct DeadKey {
-    pub dataset: u32,
-    pub birth: u32,
-    pub block: u32,
-}
-
-impl Key for DeadKey {
+impl Key for DeadRecord {
     ghost below = { dead_below };
 
-    ghost one = { Prim.search rules };
-
-    ghost chain = { Prim.search rules };
-
-    fn compare(self, other: DeadKey) -> Ordering {
-        match self.dataset.compare(other.dataset) {
-            Ordering::Equal => match self.birth.compare(other.birth) {
-                Ordering::Equal => self.block.compare(other.block),
-                apart => apart,
-            },
-            apart => apart,
-        }
-    }
+    ghost laws = { Prim.search rules };
 }
 
 impl Record for DeadRecord {
-    type Key = DeadKey;
+    type Key = DeadRecord;
 
     ghost keyed = { dead_key };
 
-    fn key(&self) -> DeadKey {
-        DeadKey {
-            dataset: self.dataset,
-            birth: self.birth,
-            block: self.block,
-        }
+    fn key(&self) -> DeadRecord {
+        *self
     }
 }

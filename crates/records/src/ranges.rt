@@ -4,7 +4,6 @@ ghost use Rattle.std.proofs.Common.{rules};
 
 use ordered::keys::Key;
 use ordered::records::Record;
-use std::cmp::Ordering;
 
 // Blocks that are free, one after another.
 #[derive(Clone, Copy, Debug, PartialEq, Eq)]
@@ -22,19 +21,13 @@ impl FreeRange {
 }
 
 // The first block of a range.
-#[derive(Clone, Copy, Debug, PartialEq, Eq)]
+#[derive(Clone, Copy, Debug, PartialEq, Eq, PartialOrd, Ord)]
 pub struct FirstBlock(pub u32);
 
 impl Key for FirstBlock {
     ghost below = { first_below };
 
-    ghost one = { Prim.search rules };
-
-    ghost chain = { Prim.search rules };
-
-    fn compare(self, other: FirstBlock) -> Ordering {
-        self.0.compare(other.0)
-    }
+    ghost laws = { Prim.search rules };
 }
 
 impl Record for FreeRange {

@@ -1,16 +1,8 @@
-use crate::dead::{DeadKey, DeadRecord};
+use crate::dead::DeadRecord;
 use ordered::tables::{InsertError, Table};
 
 fn dead(dataset: u32, birth: u32, block: u32) -> DeadRecord {
     DeadRecord {
-        dataset,
-        birth,
-        block,
-    }
-}
-
-fn key(dataset: u32, birth: u32, block: u32) -> DeadKey {
-    DeadKey {
         dataset,
         birth,
         block,
@@ -27,10 +19,10 @@ fn inserted_in_order(rt: HostRuntime) {
     assert_eq!(rt; table.insert(dead(1, 7, 4)), Err(InsertError::Present));
     assert_eq!(rt; table.insert(dead(1, 6, 8)), Ok(()));
     assert_eq!(rt; table.insert(dead(3, 1, 1)), Err(InsertError::Full));
-    assert_eq!(rt; table.find(key(1, 6, 8)), Some(0));
-    assert_eq!(rt; table.find(key(1, 7, 4)), Some(1));
-    assert_eq!(rt; table.find(key(2, 1, 9)), Some(2));
-    assert_eq!(rt; table.rank(key(1, 7, 5)), 2);
+    assert_eq!(rt; table.find(dead(1, 6, 8)), Some(0));
+    assert_eq!(rt; table.find(dead(1, 7, 4)), Some(1));
+    assert_eq!(rt; table.find(dead(2, 1, 9)), Some(2));
+    assert_eq!(rt; table.rank(dead(1, 7, 5)), 2);
 }
 
 // What is taken out is found no more, and its neighbours still are.
@@ -41,10 +33,10 @@ fn removed_alone(rt: HostRuntime) {
     assert_eq!(rt; table.insert(dead(5, 2, 3)), Ok(()));
     assert_eq!(rt; table.insert(dead(5, 1, 7)), Ok(()));
     assert_eq!(rt; table.insert(dead(4, 9, 9)), Ok(()));
-    assert_eq!(rt; table.remove(key(5, 1, 7)), Some(dead(5, 1, 7)));
-    assert_eq!(rt; table.remove(key(5, 1, 7)), None);
-    assert_eq!(rt; table.get(key(5, 1, 7)), None);
-    assert_eq!(rt; table.get(key(5, 2, 3)), Some(dead(5, 2, 3)));
+    assert_eq!(rt; table.remove(dead(5, 1, 7)), Some(dead(5, 1, 7)));
+    assert_eq!(rt; table.remove(dead(5, 1, 7)), None);
+    assert_eq!(rt; table.get(dead(5, 1, 7)), None);
+    assert_eq!(rt; table.get(dead(5, 2, 3)), Some(dead(5, 2, 3)));
     assert_eq!(rt; table.len(), 2);
 }
 
@@ -57,11 +49,11 @@ fn part_of_a_dataset(rt: HostRuntime) {
     assert_eq!(rt; table.insert(dead(6, 1, 1)), Ok(()));
     assert_eq!(rt; table.insert(dead(7, 1, 5)), Ok(()));
     assert_eq!(rt; table.insert(dead(8, 1, 0)), Ok(()));
-    let (part, before) = table.part(key(7, 0, 0), key(8, 0, 0));
+    let (part, before) = table.part(dead(7, 0, 0), dead(8, 0, 0));
     assert_eq!(rt; before, 1);
     assert_eq!(rt; part.len(), 2);
     assert_eq!(rt; part.first().copied(), Some(dead(7, 1, 5)));
     assert_eq!(rt; part.last().copied(), Some(dead(7, 3, 2)));
-    let (none, _) = table.part(key(9, 0, 0), key(7, 0, 0));
+    let (none, _) = table.part(dead(9, 0, 0), dead(7, 0, 0));
     assert_eq!(rt; none.len(), 0);
 }

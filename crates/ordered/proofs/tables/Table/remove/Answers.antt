@@ -11,7 +11,7 @@ returns-in-Some g c =
     let t = c.args.self.now in
     let u = c.take_out.new.self in
     let at = λ (s : Ordered key below t). found key below (records t) c.args.key c.in-Some.at (sym (c.in-Some.ensures.finds s)) in
-    let left = λ (s : Ordered key below t). taken key below g.met.R.Key.Key.one g.met.R.Key.Key.chain (records t) (records u) s c.args.key (c.take_out.ensures.items ∙ sym (at s).less) in
+    let left = λ (s : Ordered key below t). taken key below g.met.R.Key.Key.laws.one g.met.R.Key.Key.laws.chain (records t) (records u) s c.args.key (c.take_out.ensures.items ∙ sym (at s).less) in
     record {
       value = λ s. ap Some (c.take_out.ensures.value c.take_out.result) ∙ sym ((at s).entry c.take_out.result);
       items = λ s. (left s).items;
@@ -28,7 +28,7 @@ returns-in-None g c =
     let below = g.R.Key.Key.below in
     let t = c.args.self.now in
     let off = λ (s : Ordered key below t). missing key below (records t) c.args.key (sym (c.in-None.ensures.finds s)) in
-    let left = λ (s : Ordered key below t). taken key below g.met.R.Key.Key.one g.met.R.Key.Key.chain (records t) (records t) s c.args.key (sym (off s).less) in
+    let left = λ (s : Ordered key below t). taken key below g.met.R.Key.Key.laws.one g.met.R.Key.Key.laws.chain (records t) (records t) s c.args.key (sym (off s).less) in
     record {
       value = λ s. sym (off s).entry;
       items = λ s. (left s).items;

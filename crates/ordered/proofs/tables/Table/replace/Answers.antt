@@ -13,7 +13,7 @@ returns-in-Some g c =
     let u = c.put_over.new.self in
     let new = c.args.new in
     let at = λ (s : Ordered key below t). ap (index_of key below (records t)) (sym c.key.ensures) ∙ sym (c.in-Some.ensures.finds s) in
-    let left = λ (s : Ordered key below t). swapped key below g.met.R.Key.Key.one g.met.R.Key.Key.chain (records t) (records u) s new true (sym (ap is_some (at s))) (c.put_over.ensures.items ∙ sym ((found key below (records t) (key new) c.in-Some.at (at s)).over new refl)) in
+    let left = λ (s : Ordered key below t). swapped key below g.met.R.Key.Key.laws.one g.met.R.Key.Key.laws.chain (records t) (records u) s new true (sym (ap is_some (at s))) (c.put_over.ensures.items ∙ sym ((found key below (records t) (key new) c.in-Some.at (at s)).over new refl)) in
     record {
       value = λ s. sym (ap is_some (at s));
       items = λ s. (left s).items;
@@ -31,7 +31,7 @@ returns-in-None g c =
     let t = c.args.self.now in
     let new = c.args.new in
     let off = λ (s : Ordered key below t). ap (index_of key below (records t)) (sym c.key.ensures) ∙ sym (c.in-None.ensures.finds s) in
-    let left = λ (s : Ordered key below t). swapped key below g.met.R.Key.Key.one g.met.R.Key.Key.chain (records t) (records t) s new false (sym (ap is_some (off s))) (sym ((missing key below (records t) (key new) (off s)).over new refl)) in
+    let left = λ (s : Ordered key below t). swapped key below g.met.R.Key.Key.laws.one g.met.R.Key.Key.laws.chain (records t) (records t) s new false (sym (ap is_some (off s))) (sym ((missing key below (records t) (key new) (off s)).over new refl)) in
     record {
       value = λ s. sym (ap is_some (off s));
       items = λ s. (left s).items;
