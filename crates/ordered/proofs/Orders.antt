@@ -52,8 +52,8 @@ module _ {K : Type 0} (below : K → K → Bool) (one : (a b : K) → ExactlyOne
       go (inr (inr p)) = p.2
 
 -- a test by `cmp` is that by `below`
-pub less_below : {K : Type 0} (below : K → K → Bool) (cmp : K → K → Ordering) → IsStrictPart below cmp → (a b : K) → is_lt (cmp a b) ≡ below a b
-less_below below cmp order a b = go (cmp a b) (order.tells a b)
+pub less_below : {K : Type 0} (below : K → K → Bool) {cmp : K → K → Ordering} → IsStrictPart below cmp → (a b : K) → is_lt (cmp a b) ≡ below a b
+less_below below {cmp} order a b = go (cmp a b) (order.tells a b)
   where
     go : (o : Ordering) → MatchOrdering o (Holds below a b) (a ≡ b) (Holds below b a) → is_lt o ≡ below a b
     go Less h = sym h
@@ -61,6 +61,6 @@ less_below below cmp order a b = go (cmp a b) (order.tells a b)
     go Greater h = sym (not_above below order.one b a h)
 
 -- and so is one by `partial_cmp`, where it answers what `cmp` does
-pub lt_below : {K : Type 0} (below : K → K → Bool) (cmp : K → K → Ordering) (partial : K → K → Option Ordering) → IsStrictPart below cmp → ((a b : K) → partial a b ≡ Some (cmp a b))
+pub lt_below : {K : Type 0} (below : K → K → Bool) {cmp : K → K → Ordering} (partial : K → K → Option Ordering) → IsStrictPart below cmp → ((a b : K) → partial a b ≡ Some (cmp a b))
     → (a b : K) → partial_lt partial a b ≡ below a b
-lt_below below cmp partial order agrees a b = ap (is_some_and is_lt) (agrees a b) ∙ less_below below cmp order a b
+lt_below below partial order agrees a b = ap (is_some_and is_lt) (agrees a b) ∙ less_below below order a b

@@ -3,7 +3,8 @@ use Rattle.std.proofs.Common.{◌≡◌, ℕ, zero, suc, ◌+◌, ◌-◌, ◌<�
 use Rattle.std.specs.List.{insert, remove}
 use Rattle.std.proofs.lemmas.List.Edits.{length-remove, get_or-remove_below, get_or-remove_above}
 use Rattle.std.proofs.lemmas.Bool.{and_parts, or_cases, cases_eq, eqb-true, leb-true}
-use Rattle.ordered.specs.Order.{ExactlyOne, Holds}
+use Rattle.std.specs.declared.cmp.Ordering.{Ordering}
+use Rattle.ordered.specs.Order.{Holds, IsStrictPart}
 use Rattle.ordered.specs.Tables.{Ascending, index_of, with_record, without_key, fits_at}
 use Rattle.ordered.proofs.Calls.{placed}
 use Rattle.ordered.proofs.Edits.{ascending_without}
@@ -16,8 +17,7 @@ set_inserted [] i r lt = absurd (omega arith)
 set_inserted (x ∷ xs) zero r lt = refl
 set_inserted (x ∷ xs) (suc i) r lt = ap (λ ys. x ∷ ys) (set_inserted xs i r (omega arith))
 
-module _ {R K : Type 0} (key : R → K) (below : K → K → Bool) (one : (a b : K) → ExactlyOne (Holds below a b) (a ≡ b) (Holds below b a))
-    (chain : (a b c : K) → Holds below a b → Holds below b c → Holds below a c) (xs : List R) (up : Ascending key (Holds below) xs) (k : K) (new : R) (i : ℕ)
+module _ {R K : Type 0} (key : R → K) (below : K → K → Bool) {cmp : K → K → Ordering} (order : IsStrictPart below cmp) (xs : List R) (up : Ascending key (Holds below) xs) (k : K) (new : R) (i : ℕ)
     (at : index_of key below xs k ≡ Some i) (within : i < length xs) (fits : (d : R) → fits_at key below xs d (key new) i ≡ true) where
   before : (j : ℕ) (d : R) → j < i → Holds below (key (get_or xs j d)) (key new)
   before j d lt = go (or_cases _ _ (and_parts _ _ (fits d)).0) (cases_eq j (i - 1))
@@ -25,7 +25,7 @@ module _ {R K : Type 0} (key : R → K) (below : K → K → Bool) (one : (a b :
       go : (eqb i 0 ≡ true) ⊎ (below (key (get_or xs (i - 1) d)) (key new) ≡ true) → (j ≡ i - 1) ⊎ (j ≡ i - 1 → ⊥) → Holds below (key (get_or xs j d)) (key new)
       go (inl e) c = let z = eqb-true i 0 e in absurd (omega arith)
       go (inr h) (inl e) = subst (λ m. Holds below (key (get_or xs m d)) (key new)) (sym e) h
-      go (inr h) (inr ne) = chain _ _ _ (up j (i - 1) d (omega arith) (omega arith)) h
+      go (inr h) (inr ne) = order.chain _ _ _ (up j (i - 1) d (omega arith) (omega arith)) h
 
   behind : (j : ℕ) (d : R) → i < j → j < length xs → Holds below (key new) (key (get_or xs j d))
   behind j d gt lt = go (or_cases _ _ (and_parts _ _ (fits d)).1) (cases_eq (i + 1) j)
@@ -33,7 +33,7 @@ module _ {R K : Type 0} (key : R → K) (below : K → K → Bool) (one : (a b :
       go : (leb (length xs) (i + 1) ≡ true) ⊎ (below (key new) (key (get_or xs (i + 1) d)) ≡ true) → (i + 1 ≡ j) ⊎ (i + 1 ≡ j → ⊥) → Holds below (key new) (key (get_or xs j d))
       go (inl e) c = let z = leb-true (length xs) (i + 1) e in absurd (omega arith)
       go (inr h) (inl e) = subst (λ m. Holds below (key new) (key (get_or xs m d))) e h
-      go (inr h) (inr ne) = chain _ _ _ h (up (i + 1) j d (omega arith) lt)
+      go (inr h) (inr ne) = order.chain _ _ _ h (up (i + 1) j d (omega arith) lt)
 
   long : length (remove xs i) + 1 ≡ length xs
   long = length-remove xs i within
@@ -51,7 +51,7 @@ module _ {R K : Type 0} (key : R → K) (below : K → K → Bool) (one : (a b :
   pub rekeyed : (ys : List R) → ys ≡ set xs i new → (ys ≡ with_record key below (without_key key below xs k) new) × Ascending key (Holds below) ys
   rekeyed ys e =
       let le : i ≤ length (remove xs i) = omega (arith, long) in
-      let rest = subst (Ascending key (Holds below)) less (ascending_without key below one chain xs k up) in
-      let c = placed key below one chain (remove xs i) ys rest new i (sym (missed_index key below one (remove xs i) (key new) i le parted))
-      (missed_rank key below one (remove xs i) (key new) i le parted) (e ∙ set_inserted xs i new within) in
+      let rest = subst (Ascending key (Holds below)) less (ascending_without key below order.one order.chain xs k up) in
+      let c = placed key below order (remove xs i) ys rest new i (sym (missed_index key below order.one (remove xs i) (key new) i le parted))
+      (missed_rank key below order.one (remove xs i) (key new) i le parted) (e ∙ set_inserted xs i new within) in
       (c.items ∙ ap (λ vs. with_record key below vs new) (sym less), c.ascending)

@@ -47,13 +47,13 @@ module _ {R K : Type 0} (key : R → K) (below : K → K → Bool) (one : (a b :
     missed_rank = sym (ranked key below xs k i within p.0 (λ j d le lt. not_above below one k _ (p.1 j d le lt)))
 
 -- std's search, by `cmp` with the key
-module _ {R K : Type 0} (key : R → K) (below : K → K → Bool) (cmp : K → K → Ordering) (order : IsStrictPart below cmp) (total : IsTotalOrder cmp) (xs : List R) (k : K)
+module _ {R K : Type 0} (key : R → K) (below : K → K → Bool) {cmp : K → K → Ordering} (order : IsStrictPart below cmp) (total : IsTotalOrder cmp) (xs : List R) (k : K)
     (up : Ascending key (Holds below) xs) where
   told : (a : K) (o : Ordering) → cmp a k ≡ o → MatchOrdering o (Holds below a k) (a ≡ k) (Holds below k a)
   told a o e = subst (λ o. MatchOrdering o (Holds below a k) (a ≡ k) (Holds below k a)) e (order.tells a k)
 
   rises : IsNonDecreasingBy (λ x. ordering_index (cmp (key x) k)) xs
-  rises = searchable_from_sorted total key xs k (λ j d lo lt. less_below below cmp order _ _ ∙ not_above below order.one _ _ (up j (j + 1) d (omega arith) lt))
+  rises = searchable_from_sorted total key xs k (λ j d lo lt. less_below below order _ _ ∙ not_above below order.one _ _ (up j (j + 1) d (omega arith) lt))
 
   pub searched : (r : Result ℕ ℕ) → IsSearchInRange r (length xs) → IsBinarySearchResult (λ x. cmp (key x) k) xs r
       → (result_ok r ≡ index_of key below xs k) × (either r ≡ rank_of key below xs k)

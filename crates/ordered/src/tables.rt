@@ -54,10 +54,7 @@ impl<'m, R: Record> Table<'m, R> {
         ensures bound { result ≤ length (records self.now) }
         ensures value { Ordered R.keyed R.Key.Key.below self.now → result ≡ rank_of R.keyed R.Key.Key.below (records self.now) key }
     {
-        match places::locate(self.records(), key) {
-            Ok(at) => at,
-            Err(at) => at,
-        }
+        places::locate(self.records(), key).unwrap_or_else(|at| at)
     }
 
     // The index of the record with that key.
@@ -65,20 +62,15 @@ impl<'m, R: Record> Table<'m, R> {
         ensures within { IfSome result (λ i. i < length (records self.now)) }
         ensures finds { Ordered R.keyed R.Key.Key.below self.now → result ≡ index_of R.keyed R.Key.Key.below (records self.now) key }
     {
-        match places::locate(self.records(), key) {
-            Ok(at) => Some(at),
-            Err(_) => None,
-        }
+        places::locate(self.records(), key).ok()
     }
 
     // The record with that key.
     pub fn get(&self, key: R::Key) -> Option<R>
         ensures finds { Ordered R.keyed R.Key.Key.below self.now → result ≡ record_of R.keyed R.Key.Key.below (records self.now) key }
     {
-        match self.find(key) {
-            Some(at) => Some(self.at(at)),
-            None => None,
-        }
+        let at = self.find(key)?;
+        Some(self.at(at))
     }
 
     // The records with keys from `low` on and below `high`, in their order, and how many have keys below `low`. There
@@ -124,10 +116,8 @@ impl<'m, R: Record> Table<'m, R> {
         ensures past { KeptPast self.old self.new }
         ensures room { room self.new ≡ room self.old }
     {
-        match self.find(key) {
-            Some(at) => Some(self.take_out(at)),
-            None => None,
-        }
+        let at = self.find(key)?;
+        Some(self.take_out(at))
     }
 
     // Puts the record in the place of the one with its key; false where there is none.
@@ -140,13 +130,11 @@ impl<'m, R: Record> Table<'m, R> {
         ensures past { KeptPast self.old self.new }
         ensures room { room self.new ≡ room self.old }
     {
-        match self.find(new.key()) {
-            Some(at) => {
-                self.put_over(at, new);
-                true
-            }
-            None => false,
-        }
+        let Some(at) = self.find(new.key()) else {
+            return false;
+        };
+        self.put_over(at, new);
+        true
     }
 
     // Puts the record in the place of the one with that key, where its own key stands between those of the neighbours;
@@ -165,8 +153,7 @@ impl<'m, R: Record> Table<'m, R> {
                 self.put_over(at, new);
                 true
             }
-            Some(_) => false,
-            None => false,
+            _ => false,
         }
     }
 

@@ -14,5 +14,5 @@ returns g c =
     let cmp = g.R.Key.Ord.cmp in
     let found = c.binary_search_by.ensures in
     let by_key = found.position (λ x. cmp (key x) c.args.key) (always_returns_same _ _ _ (λ a r f called. (search rules, search rules))) in
-    let two = λ (up : Ascending key (Holds below) c.args.among.now). searched key below cmp g.met.R.Key.Key.laws g.met.R.Key.Ord.total c.args.among.now c.args.key up _ found.bound by_key in
+    let two = λ (up : Ascending key (Holds below) c.args.among.now). searched key below g.met.R.Key.Key.laws g.met.R.Key.Ord.total c.args.among.now c.args.key up _ found.bound by_key in
     record { within = found.bound; finds = λ up. (two up).0; ranks = λ up. (two up).1 }

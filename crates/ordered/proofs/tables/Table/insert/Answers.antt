@@ -18,7 +18,7 @@ returns-in-Err-2 g c =
     let up = λ (s : Ordered key below t). subst (Ascending key (Holds below)) (sym c.records.ensures.value) s in
     let absent = λ (s : Ordered key below t). ap (index_of key below xs) (sym c.key.ensures) ∙ ap (λ vs. index_of key below vs c.key.result) (sym c.records.ensures.value) ∙ sym (c.in-Err.ensures.finds (up s)) in
     let rank = λ (s : Ordered key below t). c.in-Err.ensures.ranks (up s) ∙ ap (λ vs. rank_of key below vs c.key.result) c.records.ensures.value ∙ ap (rank_of key below xs) c.key.ensures in
-    let left = λ (s : Ordered key below t). placed key below g.met.R.Key.Key.laws.one g.met.R.Key.Key.laws.chain xs (records u) s c.args.added c.in-Err.field-0 (absent s) (rank s) c.put_in.ensures.items in
+    let left = λ (s : Ordered key below t). placed key below g.met.R.Key.Key.laws xs (records u) s c.args.added c.in-Err.field-0 (absent s) (rank s) c.put_in.ensures.items in
     record {
       value = λ s. sym (cond-false _ _ _ (ap is_some (absent s)) ∙ cond-true _ _ _ (lt-ltb (length xs) (room t) free));
       items = λ s. (left s).items;

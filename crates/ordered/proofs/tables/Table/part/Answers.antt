@@ -20,7 +20,7 @@ returns g c =
     let most : to - from ≡ c.rank.result - from = omega (arith, c.max-to.ensures) in
     let first = λ (s : Ordered key below t).
     c.run.ensures.value ∙ ap (λ n. take n (drop from xs)) most ∙ ap (λ i. between i c.rank.result xs) (c.rank-from.ensures.value s)
-    ∙ ap (λ j. between (rank_of key below xs low) j xs) (c.rank.ensures.value s) ∙ part_ranks key below g.met.R.Key.Key.laws.one g.met.R.Key.Key.laws.chain low high xs s in
+    ∙ ap (λ j. between (rank_of key below xs low) j xs) (c.rank.ensures.value s) ∙ part_ranks key below g.met.R.Key.Key.laws low high xs s in
     record {
       run =
           let long : length c.run.result.now ≡ to - from = ap length c.run.ensures.value ∙ length-between xs from to ends in
@@ -28,5 +28,5 @@ returns g c =
           c.run.ensures.value ∙ ap (λ n. take n (drop from xs)) span;
       first = first;
       second = c.rank-from.ensures.value;
-      backward = λ s back. first s ∙ part_none key below g.met.R.Key.Key.laws.one g.met.R.Key.Key.laws.chain low high back xs;
+      backward = λ s back. first s ∙ part_none key below g.met.R.Key.Key.laws low high back xs;
     }

@@ -14,7 +14,7 @@ returns-in-Some g c =
     let i = c.in-Some.at in
     let at = λ (s : Ordered key below t). sym (c.in-Some.ensures.finds s) in
     let fits = λ (d : g.row.R.Denot). ap (λ k. fits_at key below (records t) d k i) (sym c.key.ensures) ∙ sym (c.if-stands_between.ensures.value d) in
-    let left = λ (s : Ordered key below t). rekeyed key below g.met.R.Key.Key.laws.one g.met.R.Key.Key.laws.chain (records t) s c.args.key new i (at s) c.in-Some.ensures.within fits (records u) c.put_over.ensures.items in
+    let left = λ (s : Ordered key below t). rekeyed key below g.met.R.Key.Key.laws (records t) s c.args.key new i (at s) c.in-Some.ensures.within fits (records u) c.put_over.ensures.items in
     record {
       value = λ s d. sym (ap (fits_over key below (records t) d (key new)) (at s) ∙ fits d);
       there = λ s e. ap is_some (at s);

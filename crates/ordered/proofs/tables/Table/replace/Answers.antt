@@ -5,33 +5,15 @@ use Rattle.ordered.proofs.Calls.{swapped}
 use Rattle.ordered.proofs.Lookups.{found, missing}
 use Rattle.ordered.proofs.tables.Table.replace.Goals as goal
 
-pub returns-in-Some : goal.returns-in-Some
-returns-in-Some g c =
+pub returns-in_default : goal.returns-in_default
+returns-in_default g c =
     let key = g.R.Record.keyed in
     let below = g.R.Key.Key.below in
     let t = c.args.self.now in
-    let u = c.put_over.new.self in
+    let xs = records t in
     let new = c.args.new in
-    let at = λ (s : Ordered key below t). ap (index_of key below (records t)) (sym c.key.ensures) ∙ sym (c.in-Some.ensures.finds s) in
-    let left = λ (s : Ordered key below t). swapped key below g.met.R.Key.Key.laws.one g.met.R.Key.Key.laws.chain (records t) (records u) s new true (sym (ap is_some (at s))) (c.put_over.ensures.items ∙ sym ((found key below (records t) (key new) c.in-Some.at (at s)).over new refl)) in
-    record {
-      value = λ s. sym (ap is_some (at s));
-      items = λ s. (left s).items;
-      alone = λ s. (left s).alone;
-      ordered = λ s. (left s).ascending;
-      kept = λ e. absurd (true≢false e);
-      past = c.put_over.ensures.past;
-      room = c.put_over.ensures.room;
-    }
-
-pub returns-in-None : goal.returns-in-None
-returns-in-None g c =
-    let key = g.R.Record.keyed in
-    let below = g.R.Key.Key.below in
-    let t = c.args.self.now in
-    let new = c.args.new in
-    let off = λ (s : Ordered key below t). ap (index_of key below (records t)) (sym c.key.ensures) ∙ sym (c.in-None.ensures.finds s) in
-    let left = λ (s : Ordered key below t). swapped key below g.met.R.Key.Key.laws.one g.met.R.Key.Key.laws.chain (records t) (records t) s new false (sym (ap is_some (off s))) (sym ((missing key below (records t) (key new) (off s)).over new refl)) in
+    let off = λ (s : Ordered key below t). ap (index_of key below xs) (sym c.key.ensures) ∙ sym (c.in_default.ensures.finds s) in
+    let left = λ (s : Ordered key below t). swapped key below g.met.R.Key.Key.laws xs xs s new false (sym (ap is_some (off s))) (sym ((missing key below xs (key new) (off s)).over new refl)) in
     record {
       value = λ s. sym (ap is_some (off s));
       items = λ s. (left s).items;
@@ -40,4 +22,23 @@ returns-in-None g c =
       kept = λ e. (refl, refl);
       past = refl;
       room = refl;
+    }
+
+pub returns : goal.returns
+returns g c =
+    let key = g.R.Record.keyed in
+    let below = g.R.Key.Key.below in
+    let t = c.args.self.now in
+    let u = c.put_over.new.self in
+    let new = c.args.new in
+    let at = λ (s : Ordered key below t). ap (index_of key below (records t)) (sym c.key.ensures) ∙ sym (c.in-Some.ensures.finds s) in
+    let left = λ (s : Ordered key below t). swapped key below g.met.R.Key.Key.laws (records t) (records u) s new true (sym (ap is_some (at s))) (c.put_over.ensures.items ∙ sym ((found key below (records t) (key new) c.in-Some.at (at s)).over new refl)) in
+    record {
+      value = λ s. sym (ap is_some (at s));
+      items = λ s. (left s).items;
+      alone = λ s. (left s).alone;
+      ordered = λ s. (left s).ascending;
+      kept = λ e. absurd (true≢false e);
+      past = c.put_over.ensures.past;
+      room = c.put_over.ensures.room;
     }
