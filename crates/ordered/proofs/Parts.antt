@@ -8,7 +8,7 @@ use Rattle.ordered.specs.Tables.{Ascending, part_of, rank_of}
 use Rattle.ordered.proofs.Edits.{first, others, none_below}
 
 module _ {R K : Type 0} (key : R → K) (below : K → K → Bool) {cmp : K → K → Ordering} (order : IsStrictPart below cmp) (low high : K) where
-  pub part_ranks : (xs : List R) → Ascending key (Holds below) xs → between (rank_of key below xs low) (rank_of key below xs high) xs ≡ part_of key below xs low high
+  part_ranks : (xs : List R) → Ascending key (Holds below) xs → between (rank_of key below xs low) (rank_of key below xs high) xs ≡ part_of key below xs low high
   part_ranks [] up = refl
   part_ranks (x ∷ xs) up = go (part_ranks xs (others key below order.one order.chain x xs up)) (cases_Bool (below (key x) low)) (cases_Bool (below (key x) high))
     where
@@ -36,6 +36,13 @@ module _ {R K : Type 0} (key : R → K) (below : K → K → Bool) {cmp : K → 
           let zero : b - a ≡ 0 = omega arith in
           ap (λ i. between i (rank_of key below (x ∷ xs) high) (x ∷ xs)) (cond-false _ _ _ lo) ∙ ap (λ j. between a j (x ∷ xs)) (cond-false _ _ _ hi)
           ∙ ap (λ n. take n (drop a (x ∷ xs))) zero ∙ sym (ap (λ n. take n (drop a xs)) zero) ∙ ih ∙ sym (cond-false _ _ _ (and_right _ _ hi))
+
+  -- as many from the rank of `low` on as lie before that of `high`
+  pub part_cut : (xs ys : List R) (from rank to : ℕ) → ys ≡ xs → from ≡ rank_of key below xs low → rank ≡ rank_of key below xs high → to - from ≡ rank - from → Ascending key (Holds below) xs
+      → take (to - from) (drop from ys) ≡ part_of key below xs low high
+  part_cut xs ys from rank to same is_from is_rank many up =
+      ap (λ zs. take (to - from) (drop from zs)) same ∙ ap (λ n. take n (drop from xs)) many ∙ ap (λ i. between i rank xs) is_from
+      ∙ ap (λ j. between (rank_of key below xs low) j xs) is_rank ∙ part_ranks xs up
 
   -- where `high` is not above `low`, nothing lies between
   pub part_none : (Holds below low high → ⊥) → (xs : List R) → part_of key below xs low high ≡ []

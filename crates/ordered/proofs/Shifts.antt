@@ -1,4 +1,4 @@
--- The records in use after a step on the places, and the places past them: one more, one less, one exchanged. Assumes nothing.
+-- The records in use after a step on the places: one more, one less, one exchanged. Assumes nothing.
 use Rattle.std.proofs.Common.{◌≡◌, ℕ, zero, suc, ◌+◌, ◌-◌, ◌<◌, ◌≤◌, List, [], ◌∷◌, ◌++◌, length, get_or, take, drop, set, sym, refl, ap, ◌∙◌, arith}
 use lib.Seq.{paste}
 use Rattle.std.specs.List.{insert, remove}
@@ -45,18 +45,6 @@ gap_filled {R} xs n i r le room =
     ends : n + 1 ≡ i + 1 + (n - i)
     ends = omega arith
 
--- and nothing past the records that there are then is touched
-pub past_filled : {R : Type 0} (xs : List R) (n i : ℕ) (r : R) → i ≤ n → n < length xs
-    → drop (n + 1) (set (paste xs (i + 1) (drop i xs) (n - i)) i r) ≡ drop (n + 1) xs
-past_filled xs n i r le room =
-    drop-set-lt (n + 1) (paste xs (i + 1) (drop i xs) (n - i)) i r (omega arith)
-    ∙ ap (λ m. drop m (paste xs (i + 1) (drop i xs) (n - i))) ends
-    ∙ drop-paste xs (i + 1) (drop i xs) (n - i) (omega arith) (omega (arith, length-drop i xs))
-    ∙ ap (λ m. drop m xs) (sym ends)
-  where
-    ends : n + 1 ≡ i + 1 + (n - i)
-    ends = omega arith
-
 -- the gap that the record at i leaves is closed
 pub gap_closed : {R : Type 0} (xs : List R) (n i : ℕ) → i < n → n ≤ length xs
     → take (n - 1) (paste xs i (drop (i + 1) xs) (n - (i + 1))) ≡ remove (take n xs) i
@@ -70,13 +58,3 @@ gap_closed {R} xs n i lt le =
 
     next : suc i ≡ i + 1
     next = omega arith
-
-pub past_closed : {R : Type 0} (xs : List R) (n i : ℕ) → i < n → n ≤ length xs
-    → drop (n - 1) (paste xs i (drop (i + 1) xs) (n - (i + 1))) ≡ drop (n - 1) xs
-past_closed xs n i lt le =
-    ap (λ m. drop m (paste xs i (drop (i + 1) xs) (n - (i + 1)))) ends
-    ∙ drop-paste xs i (drop (i + 1) xs) (n - (i + 1)) (omega arith) (omega (arith, length-drop (i + 1) xs))
-    ∙ ap (λ m. drop m xs) (sym ends)
-  where
-    ends : n - 1 ≡ i + (n - (i + 1))
-    ends = omega arith

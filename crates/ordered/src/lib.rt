@@ -8,6 +8,5 @@
 #![tactic(auto)]
 
 pub mod keys;
-pub mod places;
 pub mod records;
 pub mod tables;

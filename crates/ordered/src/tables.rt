@@ -1,13 +1,13 @@
 // A table of records in places that the caller lends. The first `count` places hold its records, in the order of their
 // keys; what stands in the others means nothing. Every call returns, whatever the places hold and whatever the count is.
-ghost use Rattle.std.specs.Prelude.{◌≡◌, ◌+◌, ◌-◌, ◌<◌, ◌≤◌, min, true, false, [], length, is_some, IfSome, OnErr, OnOk, if◌then◌else◌, Some, None, nat_le, slice_index_or, slice_set};
+ghost use Rattle.std.specs.Prelude.{◌≡◌, ◌+◌, ◌-◌, ◌<◌, ◌≤◌, min, true, false, [], length, is_some, IfSome, MatchResult, OnErr, OnOk, if◌then◌else◌, Some, None, nat_le, slice_index_or, slice_set};
 ghost use Rattle.std.specs.List.{between, insert, remove};
+ghost use Rattle.std.specs.Result.{result_ok};
 ghost use Rattle.ordered.specs.Lent.{KeptPast, Ordered, Unchanged, records, room};
 ghost use Rattle.ordered.specs.Order.{Holds};
-ghost use Rattle.ordered.specs.Tables.{Alone, index_of, rank_of, record_of, part_of, with_record, without_key, replaced, fits_at, fits_over, answer, after};
+ghost use Rattle.ordered.specs.Tables.{Alone, index_of, rank_of, record_of, part_of, with_record, without_key, replaced, fits_at, fits_over, either, answer, after};
 
 use crate::keys::Key;
-use crate::places;
 use crate::records::Record;
 
 // Why a record was not put in.
@@ -46,7 +46,7 @@ impl<'m, R: Record> Table<'m, R> {
     pub fn records(&self) -> &[R]
         ensures value { result.now ≡ records self.now }
     {
-        &self.places[0..self.used()]
+        &self.places[..self.count.min(self.places.len())]
     }
 
     // How many records have keys below that key.
@@ -54,7 +54,7 @@ impl<'m, R: Record> Table<'m, R> {
         ensures bound { result ≤ length (records self.now) }
         ensures value { Ordered R.keyed R.Key.Key.below self.now → result ≡ rank_of R.keyed R.Key.Key.below (records self.now) key }
     {
-        places::locate(self.records(), key).unwrap_or_else(|at| at)
+        self.locate(key).unwrap_or_else(|at| at)
     }
 
     // The index of the record with that key.
@@ -62,7 +62,7 @@ impl<'m, R: Record> Table<'m, R> {
         ensures within { IfSome result (λ i. i < length (records self.now)) }
         ensures finds { Ordered R.keyed R.Key.Key.below self.now → result ≡ index_of R.keyed R.Key.Key.below (records self.now) key }
     {
-        places::locate(self.records(), key).ok()
+        self.locate(key).ok()
     }
 
     // The record with that key.
@@ -83,7 +83,7 @@ impl<'m, R: Record> Table<'m, R> {
     {
         let from = self.rank(low);
         let to = self.rank(high).max(from);
-        (self.run(from, to), from)
+        (&self.records()[from..to], from)
     }
 
     // Puts the record at its place, unless one with its key is there or no place is left.
@@ -96,7 +96,7 @@ impl<'m, R: Record> Table<'m, R> {
         ensures past { KeptPast self.old self.new }
         ensures room { room self.new ≡ room self.old }
     {
-        match places::locate(self.records(), added.key()) {
+        match self.locate(added.key()) {
             Ok(_) => Err(InsertError::Present),
             Err(_) if self.is_full() => Err(InsertError::Full),
             Err(at) => {
@@ -157,11 +157,14 @@ impl<'m, R: Record> Table<'m, R> {
         }
     }
 
-    // How many places hold a record.
-    fn used(&self) -> usize
-        ensures value { result ≡ min self.now.count (room self.now) }
+    // Where the record with that key stands, or where it belongs.
+    fn locate(&self, key: R::Key) -> Result<usize, usize>
+        ensures within { MatchResult result (λ i. i < length (records self.now)) (λ i. i ≤ length (records self.now)) }
+        ensures finds { Ordered R.keyed R.Key.Key.below self.now → result_ok result ≡ index_of R.keyed R.Key.Key.below (records self.now) key }
+        ensures ranks { Ordered R.keyed R.Key.Key.below self.now → either result ≡ rank_of R.keyed R.Key.Key.below (records self.now) key }
     {
-        self.count.min(self.places.len())
+        self.records()
+            .binary_search_by(|record| record.key().cmp(&key))
     }
 
     // Whether no place is left.
@@ -196,15 +199,6 @@ impl<'m, R: Record> Table<'m, R> {
         above && (at + 1 >= count || key < self.at(at + 1).key())
     }
 
-    // The records from one index on and before another.
-    fn run(&self, from: usize, to: usize) -> &[R]
-        requires forward { from ≤ to }
-        requires within { to ≤ length (records self.now) }
-        ensures value { result.now ≡ between from to (records self.now) }
-    {
-        &self.records()[from..to]
-    }
-
     // Puts a record in at that index.
     fn put_in(&mut self, at: usize, added: R)
         requires within { at ≤ length (records self.old) }
@@ -214,8 +208,8 @@ impl<'m, R: Record> Table<'m, R> {
         ensures room { room self.new ≡ room self.old }
     {
         let count = self.count;
-        places::open(self.places, at, count);
-        places::write(self.places, at, added);
+        self.places.copy_within(at..count, at + 1);
+        self.places[at] = added;
         self.count = count + 1;
     }
 
@@ -229,7 +223,7 @@ impl<'m, R: Record> Table<'m, R> {
     {
         let taken = self.at(at);
         let count = self.len();
-        places::close(self.places, at, count);
+        self.places.copy_within(at + 1..count, at);
         self.count = count - 1;
         taken
     }
@@ -241,6 +235,6 @@ impl<'m, R: Record> Table<'m, R> {
         ensures past { KeptPast self.old self.new }
         ensures room { room self.new ≡ room self.old }
     {
-        places::write(self.places, at, new);
+        self.places[at] = new;
     }
 }

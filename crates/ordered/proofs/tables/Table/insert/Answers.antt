@@ -1,8 +1,7 @@
-use Rattle.std.proofs.Common.{◌<◌, length, is_some, sym, ap, ◌∙◌, subst}
+use Rattle.std.proofs.Common.{◌<◌, length, is_some, sym, ap, ◌∙◌}
 use Rattle.std.proofs.lemmas.Bool.{cond-true, cond-false, leb-false, lt-ltb}
 use Rattle.ordered.specs.Lent.{Ordered, records, room}
-use Rattle.ordered.specs.Order.{Holds}
-use Rattle.ordered.specs.Tables.{Ascending, index_of, rank_of}
+use Rattle.ordered.specs.Tables.{index_of, rank_of}
 use Rattle.ordered.proofs.Calls.{placed}
 use Rattle.ordered.proofs.tables.Table.insert.Goals as goal
 
@@ -13,11 +12,9 @@ returns-in-Err-2 g c =
     let t = c.args.self.now in
     let u = c.put_in.new.self in
     let xs = records t in
-    let k = key c.args.added in
     let free : length xs < room t = leb-false (room t) (length xs) (sym c.if-is_full.ensures.value) in
-    let up = λ (s : Ordered key below t). subst (Ascending key (Holds below)) (sym c.records.ensures.value) s in
-    let absent = λ (s : Ordered key below t). ap (index_of key below xs) (sym c.key.ensures) ∙ ap (λ vs. index_of key below vs c.key.result) (sym c.records.ensures.value) ∙ sym (c.in-Err.ensures.finds (up s)) in
-    let rank = λ (s : Ordered key below t). c.in-Err.ensures.ranks (up s) ∙ ap (λ vs. rank_of key below vs c.key.result) c.records.ensures.value ∙ ap (rank_of key below xs) c.key.ensures in
+    let absent = λ (s : Ordered key below t). ap (index_of key below xs) (sym c.key.ensures) ∙ sym (c.in-Err.ensures.finds s) in
+    let rank = λ (s : Ordered key below t). c.in-Err.ensures.ranks s ∙ ap (rank_of key below xs) c.key.ensures in
     let left = λ (s : Ordered key below t). placed key below g.met.R.Key.Key.laws xs (records u) s c.args.added c.in-Err.field-0 (absent s) (rank s) c.put_in.ensures.items in
     record {
       value = λ s. sym (cond-false _ _ _ (ap is_some (absent s)) ∙ cond-true _ _ _ (lt-ltb (length xs) (room t) free));
