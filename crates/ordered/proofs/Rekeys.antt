@@ -6,7 +6,7 @@ use Rattle.std.proofs.lemmas.Bool.{and_parts, or_cases, cases_eq, eqb-true, leb-
 use Rattle.std.specs.declared.cmp.Ordering.{Ordering}
 use Rattle.ordered.specs.Order.{Holds, IsStrictPart}
 use Rattle.ordered.specs.Tables.{Ascending, index_of, with_record, without_key, fits_at}
-use Rattle.ordered.proofs.Calls.{placed}
+use Rattle.ordered.proofs.Calls.{put_in}
 use Rattle.ordered.proofs.Edits.{ascending_without}
 use Rattle.ordered.proofs.Lookups.{found}
 use Rattle.ordered.proofs.Search.{Parted, missed_index, missed_rank}
@@ -18,7 +18,10 @@ set_inserted (x ∷ xs) zero r lt = refl
 set_inserted (x ∷ xs) (suc i) r lt = ap (λ ys. x ∷ ys) (set_inserted xs i r (omega arith))
 
 module _ {R K : Type 0} (key : R → K) (below : K → K → Bool) {cmp : K → K → Ordering} (order : IsStrictPart below cmp) (xs : List R) (up : Ascending key (Holds below) xs) (k : K) (new : R) (i : ℕ)
-    (at : index_of key below xs k ≡ Some i) (within : i < length xs) (fits : (d : R) → fits_at key below xs d (key new) i ≡ true) where
+    (at : Some i ≡ index_of key below xs k) (within : i < length xs) {q : K} (is : q ≡ key new) (told : (d : R) → true ≡ fits_at key below xs d q i) where
+  fits : (d : R) → fits_at key below xs d (key new) i ≡ true
+  fits d = ap (λ q. fits_at key below xs d q i) (sym is) ∙ sym (told d)
+
   before : (j : ℕ) (d : R) → j < i → Holds below (key (get_or xs j d)) (key new)
   before j d lt = go (or_cases _ _ (and_parts _ _ (fits d)).0) (cases_eq j (i - 1))
     where
@@ -46,12 +49,12 @@ module _ {R K : Type 0} (key : R → K) (below : K → K → Bool) {cmp : K → 
   )
 
   less : without_key key below xs k ≡ remove xs i
-  less = (found key below xs k i at).less
+  less = (found key below xs k i (sym at)).less
 
   pub rekeyed : (ys : List R) → ys ≡ set xs i new → (ys ≡ with_record key below (without_key key below xs k) new) × Ascending key (Holds below) ys
   rekeyed ys e =
       let le : i ≤ length (remove xs i) = omega (arith, long) in
       let rest = subst (Ascending key (Holds below)) less (ascending_without key below order.one order.chain xs k up) in
-      let c = placed key below order (remove xs i) ys rest new i (sym (missed_index key below order.one (remove xs i) (key new) i le parted))
+      let c = put_in key below order (remove xs i) ys rest new refl (missed_index key below order.one (remove xs i) (key new) i le parted)
       (missed_rank key below order.one (remove xs i) (key new) i le parted) (e ∙ set_inserted xs i new within) in
       (c.items ∙ ap (λ vs. with_record key below vs new) (sym less), c.ascending)

@@ -1,16 +1,9 @@
-use Rattle.std.proofs.Common.{Some, sym, ap, ◌∙◌}
-use Rattle.ordered.proofs.Lookups.{found, missing}
 use Rattle.ordered.specs.Lent.{records}
+use Rattle.ordered.proofs.Calls.{looked_up, not_there}
 use Rattle.ordered.proofs.tables.Table.get.Goals as goal
 
 pub returns-in_err-at : goal.returns-in_err-at
-returns-in_err-at g c = record {
-  finds = λ s. c.from_residual.ensures ∙ sym (missing g.R.Record.keyed g.R.Key.Key.below (records c.args.self.now) c.args.key (sym (c.in_err-at.ensures.finds s))).entry;
-}
+returns-in_err-at g c = record { finds = λ s. not_there g.R.Record.keyed g.R.Key.Key.below _ _ (c.in_err-at.ensures.finds s) c.from_residual.ensures }
 
 pub returns : goal.returns
-returns g c = record {
-  finds = λ s.
-      let f = found g.R.Record.keyed g.R.Key.Key.below (records c.args.self.now) c.args.key c.in_ok-at.at (sym (c.in_ok-at.ensures.finds s)) in
-      ap Some (c.at.ensures.value c.at.result) ∙ sym (f.entry c.at.result);
-}
+returns g c = record { finds = λ s. looked_up g.R.Record.keyed g.R.Key.Key.below _ _ (c.in_ok-at.ensures.finds s) c.at.ensures.value }

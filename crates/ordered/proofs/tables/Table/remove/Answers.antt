@@ -1,40 +1,24 @@
-use Rattle.std.proofs.Common.{Some, sym, refl, ap, ◌∙◌, true≢false}
-use Rattle.ordered.specs.Lent.{Ordered, records}
-use Rattle.ordered.proofs.Calls.{taken}
-use Rattle.ordered.proofs.Lookups.{found, missing}
+use Rattle.std.proofs.Common.{refl}
+use Rattle.ordered.proofs.Calls.{looked_up, none_taken, not_there, taken_out}
 use Rattle.ordered.proofs.tables.Table.remove.Goals as goal
 
-pub returns-in_err-at : goal.returns-in_err-at
-returns-in_err-at g c =
-    let key = g.R.Record.keyed in
-    let below = g.R.Key.Key.below in
-    let xs = records c.args.self.now in
-    let off = λ (s : Ordered key below c.args.self.now). missing key below xs c.args.key (sym (c.in_err-at.ensures.finds s)) in
-    let left = λ (s : Ordered key below c.args.self.now). taken key below g.met.R.Key.Key.laws xs xs s c.args.key (sym (off s).less) in
-    record {
-      value = λ s. c.from_residual.ensures ∙ sym (off s).entry;
-      items = λ s. (left s).items;
-      alone = λ s. (left s).alone;
-      ordered = λ s. s;
-      kept = λ e. (refl, refl);
-      past = refl;
-      room = refl;
-    }
+pub returns-in_err-at-clause-value : goal.returns-in_err-at-clause-value
+returns-in_err-at-clause-value g c = λ s. not_there g.R.Record.keyed g.R.Key.Key.below _ _ (c.in_err-at.ensures.finds s) c.from_residual.ensures
 
-pub returns : goal.returns
-returns g c =
-    let key = g.R.Record.keyed in
-    let below = g.R.Key.Key.below in
-    let t = c.args.self.now in
-    let u = c.take_out.new.self in
-    let at = λ (s : Ordered key below t). found key below (records t) c.args.key c.in_ok-at.at (sym (c.in_ok-at.ensures.finds s)) in
-    let left = λ (s : Ordered key below t). taken key below g.met.R.Key.Key.laws (records t) (records u) s c.args.key (c.take_out.ensures.items ∙ sym (at s).less) in
-    record {
-      value = λ s. ap Some (c.take_out.ensures.value c.take_out.result) ∙ sym ((at s).entry c.take_out.result);
-      items = λ s. (left s).items;
-      alone = λ s. (left s).alone;
-      ordered = λ s. (left s).ascending;
-      kept = λ e. absurd (true≢false e);
-      past = c.take_out.ensures.past;
-      room = c.take_out.ensures.room;
-    }
+pub returns-in_err-at-clause-items : goal.returns-in_err-at-clause-items
+returns-in_err-at-clause-items g c = λ s. (none_taken g.R.Record.keyed g.R.Key.Key.below g.met.R.Key.Key.laws _ _ s _ (c.in_err-at.ensures.finds s) refl).items
+
+pub returns-in_err-at-clause-alone : goal.returns-in_err-at-clause-alone
+returns-in_err-at-clause-alone g c = λ s. (none_taken g.R.Record.keyed g.R.Key.Key.below g.met.R.Key.Key.laws _ _ s _ (c.in_err-at.ensures.finds s) refl).alone
+
+pub returns-clause-value : goal.returns-clause-value
+returns-clause-value g c = λ s. looked_up g.R.Record.keyed g.R.Key.Key.below _ _ (c.in_ok-at.ensures.finds s) c.take_out.ensures.value
+
+pub returns-clause-items : goal.returns-clause-items
+returns-clause-items g c = λ s. (taken_out g.R.Record.keyed g.R.Key.Key.below g.met.R.Key.Key.laws _ _ s _ (c.in_ok-at.ensures.finds s) c.take_out.ensures.items).items
+
+pub returns-clause-alone : goal.returns-clause-alone
+returns-clause-alone g c = λ s. (taken_out g.R.Record.keyed g.R.Key.Key.below g.met.R.Key.Key.laws _ _ s _ (c.in_ok-at.ensures.finds s) c.take_out.ensures.items).alone
+
+pub returns-clause-ordered : goal.returns-clause-ordered
+returns-clause-ordered g c = λ s. (taken_out g.R.Record.keyed g.R.Key.Key.below g.met.R.Key.Key.laws _ _ s _ (c.in_ok-at.ensures.finds s) c.take_out.ensures.items).ascending
