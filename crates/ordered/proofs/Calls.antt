@@ -1,5 +1,5 @@
 -- What a call that changes a table leaves, from where its key was found. Assumes nothing.
-use Rattle.std.proofs.Common.{◌≡◌, ℕ, Bool, true, false, cond, List, get_or, set, is_some, Some, None, Option, sym, refl, ap, ◌∙◌, subst}
+use Rattle.std.proofs.Common.{◌≡◌, ℕ, Bool, true, false, cond, List, get_or, set, is_some, Some, None, Option, sym, ap, ◌∙◌, subst}
 use Rattle.std.specs.List.{insert, remove}
 use Rattle.std.specs.declared.cmp.Ordering.{Ordering}
 use Rattle.ordered.specs.Order.{Holds, IsStrictPart}

@@ -2,21 +2,15 @@
 use Rattle.std.proofs.Common.{◌≡◌, ℕ, zero, suc, ◌+◌, ◌-◌, ◌<◌, ◌≤◌, List, [], ◌∷◌, ◌++◌, length, get_or, take, drop, set, sym, refl, ap, ◌∙◌, arith}
 use lib.Seq.{paste}
 use Rattle.std.specs.List.{insert, remove}
-use Rattle.std.proofs.lemmas.List.Edits.{take-paste, drop-paste}
-use Rattle.std.proofs.lemmas.List.{append_assoc, drop-set-lt, drop-take, length-drop, length-take-le, set_at, take_more, take-take}
+use Rattle.std.proofs.Math.Seq.{take-set-lt}
+use Rattle.std.proofs.lemmas.List.Edits.{take-paste}
+use Rattle.std.proofs.lemmas.List.{append_assoc, drop-take, length-drop, length-take-le, set_at, take_more, take-take}
 
 -- as many as there are
 pub take_length : {R : Type 0} (n : ℕ) (xs : List R) → take (length (take n xs)) xs ≡ take n xs
 take_length zero xs = refl
 take_length (suc n) [] = refl
 take_length (suc n) (x ∷ xs) = ap (λ ys. x ∷ ys) (take_length n xs)
-
--- a write to the places in use
-pub set_within : {R : Type 0} (xs : List R) (n i : ℕ) (r : R) → i < n → take n (set xs i r) ≡ set (take n xs) i r
-set_within xs zero i r lt = absurd (omega arith)
-set_within [] (suc n) i r lt = refl
-set_within (x ∷ xs) (suc n) zero r lt = refl
-set_within (x ∷ xs) (suc n) (suc i) r lt = ap (λ ys. x ∷ ys) (set_within xs n i r (omega arith))
 
 -- the first n records, cut at i
 front : {R : Type 0} (xs : List R) (n i : ℕ) → i ≤ n → take i (take n xs) ≡ take i xs
@@ -29,7 +23,7 @@ back xs n i le = let e : n ≡ i + (n - i) = omega arith in ap (λ m. drop i (ta
 pub gap_filled : {R : Type 0} (xs : List R) (n i : ℕ) (r : R) → i ≤ n → n < length xs
     → take (n + 1) (set (paste xs (i + 1) (drop i xs) (n - i)) i r) ≡ insert (take n xs) i r
 gap_filled {R} xs n i r le room =
-    set_within moved (n + 1) i r (omega arith)
+    take-set-lt (n + 1) moved i r (omega arith)
     ∙ ap (λ ys. set ys i r) (ap (λ m. take m moved) ends ∙ take-paste xs (i + 1) (drop i xs) (n - i) (omega arith) (omega (arith, length-drop i xs)))
     ∙ ap (λ ys. set (ys ++ rest) i r) (take_more xs i r (omega arith))
     ∙ ap (λ ys. set ys i r) (append_assoc (take i xs) (get_or xs i r ∷ []) rest)

@@ -19,6 +19,8 @@ pub enum InsertError {
     Full,
 }
 
+// A lent slice with a count beside it: a Vec would take the heap. That the records are in order is a premise of the
+// clauses below and no invariant here: lent memory may have been altered, and every call must still end and stay inside.
 #[derive(Drop)]
 pub struct Table<'m, R> {
     places: &'m mut [R],
@@ -194,9 +196,8 @@ impl<'m, R: Record> Table<'m, R> {
         requires { at < length (records self.now) }
         ensures value { (d : R) → result ≡ fits_at R.keyed R.Key.Key.below (records self.now) d key at }
     {
-        let count = self.len();
-        let above = at == 0 || self.at(at - 1).key() < key;
-        above && (at + 1 >= count || key < self.at(at + 1).key())
+        (at == 0 || self.at(at - 1).key() < key)
+            && (at + 1 >= self.len() || key < self.at(at + 1).key())
     }
 
     // Puts a record in at that index.

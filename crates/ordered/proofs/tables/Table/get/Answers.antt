@@ -1,4 +1,3 @@
-use Rattle.ordered.specs.Lent.{records}
 use Rattle.ordered.proofs.Calls.{looked_up, not_there}
 use Rattle.ordered.proofs.tables.Table.get.Goals as goal
 
