@@ -1,13 +1,12 @@
 -- Ascending records with one more, one less or one exchanged: still ascending, and changed at one key alone. Assumes nothing.
-use Rattle.std.proofs.Common.{◌≡◌, ℕ, zero, suc, Bool, true, false, cond, ◌⊎◌, List, [], ◌∷◌, is_some, Some, None, Option, sym, refl, ap, ◌∙◌, subst, inl, inr, true≢false, arith}
+use Rattle.std.proofs.Common.{◌≡◌, zero, suc, Bool, false, cond, List, [], ◌∷◌, is_some, Some, None, refl, ◌∙◌, subst, arith}
 use Rattle.std.specs.List.{insert, AllByRecursion as All}
-use Rattle.std.specs.Option.{option_map}
 use Rattle.std.proofs.ByRecursion.{All-get_or, All-from_get_or, All-weaker}
-use Rattle.std.proofs.lemmas.Bool.{cases_Bool, cond-true, cond-false, cond_both}
+use Rattle.std.proofs.lemmas.Bool.{cond-false, cond_both}
 use Rattle.ordered.specs.Order.{ExactlyOne, Holds}
 use Rattle.ordered.specs.Tables.{Ascending, Alone, same, index_of, record_of, rank_of, with_record, without_key, replaced}
 use Rattle.ordered.proofs.Lookups.{missing_parts}
-use Rattle.ordered.proofs.Orders.{same_equal, same_above, equal_same, above_other}
+use Rattle.ordered.proofs.Orders.{same_above, equal_same, above_other}
 
 module _ {R K : Type 0} (key : R → K) (below : K → K → Bool) (one : (a b : K) → ExactlyOne (Holds below a b) (a ≡ b) (Holds below b a))
     (chain : (a b c : K) → Holds below a b → Holds below b c → Holds below a c) where
@@ -65,50 +64,19 @@ module _ {R K : Type 0} (key : R → K) (below : K → K → Bool) (one : (a b :
   -- no record past x is below a key that x is not below
   pub none_below : (x : R) (xs : List R) (k : K) → below (key x) k ≡ false → All (λ y. Holds below (key x) (key y)) xs → rank_of key below xs k ≡ 0
   none_below x [] k over high = refl
-  none_below x (y ∷ ys) k over high = cond-false _ _ _ (go (cases_Bool (below (key y) k))) ∙ none_below x ys k over high.1
-    where
-      go : (below (key y) k ≡ true) ⊎ (below (key y) k ≡ false) → below (key y) k ≡ false
-      go (inl t) = absurd (true≢false (sym (chain _ _ _ high.0 t) ∙ over))
-      go (inr f) = f
+  none_below x (y ∷ ys) k over high = grind (arith, chain (key x) (key y) k, high.0, none_below x ys k over high.1)
 
   pub with_at_rank : (xs : List R) (r : R) → Ascending key (Holds below) xs → insert xs (rank_of key below xs (key r)) r ≡ with_record key below xs r
   with_at_rank [] r up = refl
-  with_at_rank (x ∷ xs) r up = go (with_at_rank xs r (others x xs up)) (cases_Bool (below (key x) (key r)))
-    where
-      go : insert xs (rank_of key below xs (key r)) r ≡ with_record key below xs r → (below (key x) (key r) ≡ true) ⊎ (below (key x) (key r) ≡ false)
-          → insert (x ∷ xs) (rank_of key below (x ∷ xs) (key r)) r ≡ with_record key below (x ∷ xs) r
-      go ih (inl less) = ap (λ i. insert (x ∷ xs) i r) (cond-true _ _ _ less) ∙ ap (λ ys. x ∷ ys) ih ∙ sym (cond-true _ _ _ less)
-      go ih (inr more) = ap (λ i. insert (x ∷ xs) i r) (cond-false _ _ _ more ∙ none_below x xs (key r) more (first x xs up)) ∙ sym (cond-false _ _ _ more)
+  with_at_rank (x ∷ xs) r up =
+      let none = λ (over : below (key x) (key r) ≡ false). none_below x xs (key r) over (first x xs up) in
+      grind (arith, none, with_at_rank xs r (others x xs up))
 
   -- one key alone
   pub alone_with : (xs : List R) (r : R) → index_of key below xs (key r) ≡ None → Alone key below xs (with_record key below xs r) (key r) (Some r)
   alone_with [] r absent q = refl
   alone_with (x ∷ xs) r absent q =
-      go (alone_with xs r (missing_parts key below x xs (key r) absent).1 q) (cases_Bool (below (key x) (key r))) (cases_Bool (same below (key x) q))
-    where
-      go : record_of key below (with_record key below xs r) q ≡ cond (same below (key r) q) (Some r) (record_of key below xs q)
-          → (below (key x) (key r) ≡ true) ⊎ (below (key x) (key r) ≡ false) → (same below (key x) q ≡ true) ⊎ (same below (key x) q ≡ false)
-          → record_of key below (with_record key below (x ∷ xs) r) q ≡ cond (same below (key r) q) (Some r) (record_of key below (x ∷ xs) q)
-      go ih (inr more) s = ap (λ ys. record_of key below ys q) (cond-false _ _ _ more)
-      go ih (inl less) (inl here) =
-          let above : Holds below q (key r) = subst (λ a. Holds below a (key r)) (equal_same below one (key x) q here) less in
-          ap (λ ys. record_of key below ys q) (cond-true _ _ _ less) ∙ cond-true _ _ _ here
-          ∙ sym (cond-false _ _ _ (same_above below one (key r) q above) ∙ cond-true _ _ _ here)
-      go ih (inl less) (inr past) =
-          ap (λ ys. record_of key below ys q) (cond-true _ _ _ less) ∙ cond-false _ _ _ past ∙ ih
-          ∙ ap (λ o. cond (same below (key r) q) (Some r) o) (sym (cond-false _ _ _ past))
-
-  none_either : (b : Bool) → ◌≡◌ {A = Option R} None (cond b None None)
-  none_either true = refl
-  none_either false = refl
-
-  -- two records with one key cannot both be met
-  apart_keys : (a b q : K) → same below a b ≡ false → same below a q ≡ true → same below b q ≡ false
-  apart_keys a b q past here = go (cases_Bool (same below b q))
-    where
-      go : (same below b q ≡ true) ⊎ (same below b q ≡ false) → same below b q ≡ false
-      go (inl t) = absurd (true≢false (sym (same_equal below one a b (equal_same below one a q here ∙ sym (equal_same below one b q t))) ∙ past))
-      go (inr f) = f
+      grind (arith, equal_same below one (key x) q, same_above below one (key r) q, alone_with xs r (missing_parts key below x xs (key r) absent).1 q)
 
   -- no record past the first has its key
   none_later : (xs : List R) (a : K) → All (λ y. Holds below a (key y)) xs → record_of key below xs a ≡ None
@@ -116,49 +84,11 @@ module _ {R K : Type 0} (key : R → K) (below : K → K → Bool) (one : (a b :
   none_later (x ∷ xs) a high = cond-false _ _ _ (same_above below one (key x) a high.0) ∙ none_later xs a high.1
 
   pub alone_without : (xs : List R) (k : K) → Ascending key (Holds below) xs → Alone key below xs (without_key key below xs k) k None
-  alone_without [] k up q = none_either (same below k q)
+  alone_without [] k up q = grind arith
   alone_without (x ∷ xs) k up q =
-      go (alone_without xs k (others x xs up) q) (cases_Bool (same below (key x) k)) (cases_Bool (same below (key x) q)) (cases_Bool (same below k q))
-    where
-      go : record_of key below (without_key key below xs k) q ≡ cond (same below k q) None (record_of key below xs q)
-          → (same below (key x) k ≡ true) ⊎ (same below (key x) k ≡ false) → (same below (key x) q ≡ true) ⊎ (same below (key x) q ≡ false)
-          → (same below k q ≡ true) ⊎ (same below k q ≡ false)
-          → record_of key below (without_key key below (x ∷ xs) k) q ≡ cond (same below k q) None (record_of key below (x ∷ xs) q)
-      go ih (inl here) s (inl is) =
-          let e : key x ≡ q = equal_same below one _ _ here ∙ equal_same below one _ _ is in
-          ap (λ ys. record_of key below ys q) (cond-true _ _ _ here) ∙ none_later xs q (subst (λ a. All (λ y. Holds below a (key y)) xs) e (first x xs up))
-          ∙ sym (cond-true _ _ _ is)
-      go ih (inl here) s (inr other) =
-          let off : same below (key x) q ≡ false = subst (λ a. same below a q ≡ false) (sym (equal_same below one _ _ here)) other in
-          ap (λ ys. record_of key below ys q) (cond-true _ _ _ here) ∙ sym (cond-false _ _ _ other ∙ cond-false _ _ _ off)
-      go ih (inr past) (inl at) b =
-          ap (λ ys. record_of key below ys q) (cond-false _ _ _ past) ∙ cond-true _ _ _ at ∙ sym (cond-false _ _ _ (apart_keys (key x) k q past at) ∙ cond-true _ _ _ at)
-      go ih (inr past) (inr off) b =
-          ap (λ ys. record_of key below ys q) (cond-false _ _ _ past) ∙ cond-false _ _ _ off ∙ ih ∙ ap (λ o. cond (same below k q) None o) (sym (cond-false _ _ _ off))
-
-  some_mapped : (o : Option ℕ) → is_some (option_map suc o) ≡ is_some o
-  some_mapped None = refl
-  some_mapped (Some i) = refl
+      let later = λ (e : key x ≡ q). subst (λ a. record_of key below xs a ≡ None) e (none_later xs (key x) (first x xs up)) in
+      grind (arith, later, equal_same below one (key x) k, equal_same below one (key x) q, equal_same below one k q, alone_without xs k (others x xs up) q)
 
   pub alone_replaced : (xs : List R) (r : R) → Alone key below xs (replaced key below xs r) (key r) (cond (is_some (index_of key below xs (key r))) (Some r) None)
-  alone_replaced [] r q = none_either (same below (key r) q)
-  alone_replaced (x ∷ xs) r q = go (alone_replaced xs r q) (cases_Bool (same below (key x) (key r))) (cases_Bool (same below (key x) q))
-    where
-      there : Option ℕ → Option R
-      there o = cond (is_some o) (Some r) None
-
-      here : key x ≡ key r → (same below (key r) q ≡ true) ⊎ (same below (key r) q ≡ false)
-          → record_of key below (r ∷ xs) q ≡ cond (same below (key r) q) (there (index_of key below (x ∷ xs) (key r))) (record_of key below (x ∷ xs) q)
-      here e (inl t) = cond-true _ _ _ t ∙ sym (cond-true _ _ _ t ∙ cond-true _ _ _ (ap is_some (cond-true _ _ _ (same_equal below one _ _ e))))
-      here e (inr f) = cond-false _ _ _ f ∙ sym (cond-false _ _ _ f ∙ cond-false _ _ _ (subst (λ a. same below a q ≡ false) (sym e) f))
-
-      go : record_of key below (replaced key below xs r) q ≡ cond (same below (key r) q) (there (index_of key below xs (key r))) (record_of key below xs q)
-          → (same below (key x) (key r) ≡ true) ⊎ (same below (key x) (key r) ≡ false) → (same below (key x) q ≡ true) ⊎ (same below (key x) q ≡ false)
-          → record_of key below (replaced key below (x ∷ xs) r) q ≡ cond (same below (key r) q) (there (index_of key below (x ∷ xs) (key r))) (record_of key below (x ∷ xs) q)
-      go ih (inl is) s = ap (λ ys. record_of key below ys q) (cond-true _ _ _ is) ∙ here (equal_same below one _ _ is) (cases_Bool (same below (key r) q))
-      go ih (inr past) (inl at) =
-          ap (λ ys. record_of key below ys q) (cond-false _ _ _ past) ∙ cond-true _ _ _ at ∙ sym (cond-false _ _ _ (apart_keys (key x) (key r) q past at) ∙ cond-true _ _ _ at)
-      go ih (inr past) (inr off) =
-          ap (λ ys. record_of key below ys q) (cond-false _ _ _ past) ∙ cond-false _ _ _ off ∙ ih
-          ∙ ap (λ b. cond (same below (key r) q) (cond {A = Option R} b (Some r) None) (record_of key below xs q)) (sym (ap is_some (cond-false _ _ _ past) ∙ some_mapped (index_of key below xs (key r))))
-          ∙ ap (λ o. cond (same below (key r) q) (there (index_of key below (x ∷ xs) (key r))) o) (sym (cond-false _ _ _ off))
+  alone_replaced [] r q = grind arith
+  alone_replaced (x ∷ xs) r q = grind (arith, one (key x) q, one (key r) q, one (key x) (key r), alone_replaced xs r q)

@@ -1,5 +1,5 @@
 -- What a total order says of `below`, `same` and `cmp`. Assumes nothing.
-use Rattle.std.proofs.Common.{◌≡◌, Bool, true, false, not, ◌⊎◌, Some, Option, sym, ap, ◌∙◌, inl, inr, true≢false, arith}
+use Rattle.std.proofs.Common.{◌≡◌, Bool, true, false, Some, Option, sym, ap, ◌∙◌, arith}
 use Rattle.std.specs.Ordering.{MatchOrdering, is_lt, is_some_and, partial_lt}
 use Rattle.std.specs.declared.cmp.Ordering.{Ordering}
 use Rattle.std.specs.declared.cmp.Ordering.TheVariants.{Less, Equal, Greater}

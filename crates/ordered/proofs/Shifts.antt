@@ -12,10 +12,7 @@ take_length zero xs = refl
 take_length (suc n) [] = refl
 take_length (suc n) (x ∷ xs) = ap (λ ys. x ∷ ys) (take_length n xs)
 
--- the first n records, cut at i
-front : {R : Type 0} (xs : List R) (n i : ℕ) → i ≤ n → take i (take n xs) ≡ take i xs
-front xs n i le = take-take i n xs le
-
+-- the first n records, from i on
 back : {R : Type 0} (xs : List R) (n i : ℕ) → i ≤ n → drop i (take n xs) ≡ take (n - i) (drop i xs)
 back xs n i le = let e : n ≡ i + (n - i) = omega arith in ap (λ m. drop i (take m xs)) e ∙ drop-take i (n - i) xs
 
@@ -28,7 +25,7 @@ gap_filled {R} xs n i r le room =
     ∙ ap (λ ys. set (ys ++ rest) i r) (take_more xs i r (omega arith))
     ∙ ap (λ ys. set ys i r) (append_assoc (take i xs) (get_or xs i r ∷ []) rest)
     ∙ set_at (take i xs) (get_or xs i r) rest r i (length-take-le i xs (omega arith))
-    ∙ sym (ap (λ ys. ys ++ r ∷ drop i (take n xs)) (front xs n i le) ∙ ap (λ ys. take i xs ++ r ∷ ys) (back xs n i le))
+    ∙ sym (ap (λ ys. ys ++ r ∷ drop i (take n xs)) (take-take i n xs le) ∙ ap (λ ys. take i xs ++ r ∷ ys) (back xs n i le))
   where
     moved : List R
     moved = paste xs (i + 1) (drop i xs) (n - i)
@@ -45,7 +42,7 @@ pub gap_closed : {R : Type 0} (xs : List R) (n i : ℕ) → i < n → n ≤ leng
 gap_closed {R} xs n i lt le =
     ap (λ m. take m (paste xs i (drop (i + 1) xs) (n - (i + 1)))) ends
     ∙ take-paste xs i (drop (i + 1) xs) (n - (i + 1)) (omega arith) (omega (arith, length-drop (i + 1) xs))
-    ∙ sym (ap (λ ys. ys ++ drop (suc i) (take n xs)) (front xs n i (omega arith)) ∙ ap (λ m. take i xs ++ drop m (take n xs)) next ∙ ap (λ ys. take i xs ++ ys) (back xs n (i + 1) (omega arith)))
+    ∙ sym (ap (λ ys. ys ++ drop (suc i) (take n xs)) (take-take i n xs (omega arith)) ∙ ap (λ m. take i xs ++ drop m (take n xs)) next ∙ ap (λ ys. take i xs ++ ys) (back xs n (i + 1) (omega arith)))
   where
     ends : n - 1 ≡ i + (n - (i + 1))
     ends = omega arith
