@@ -1,8 +1,9 @@
 -- A record put in the place of one with another key: the keys of its neighbours say that the order is kept. Assumes nothing.
-use Rattle.std.proofs.Common.{◌≡◌, ℕ, zero, suc, ◌+◌, ◌-◌, ◌<◌, ◌≤◌, Bool, true, eqb, leb, ◌⊎◌, List, [], ◌∷◌, length, get_or, set, Some, sym, refl, ap, ◌∙◌, subst, inl, inr, arith}
+use Rattle.std.proofs.Common.{◌≡◌, ℕ, zero, suc, ◌+◌, ◌-◌, ◌<◌, ◌≤◌, Bool, true, List, [], ◌∷◌, length, get_or, set, Some, sym, refl, ap, ◌∙◌, subst, arith}
 use Rattle.std.specs.List.{insert, remove}
 use Rattle.std.proofs.lemmas.List.Edits.{length-remove, get_or-remove_below, get_or-remove_above}
-use Rattle.std.proofs.lemmas.Bool.{and_parts, or_cases, cases_eq, eqb-true, leb-true}
+use Rattle.std.proofs.lemmas.Bool.Decides.{nat_tests}
+use Rattle.std.proofs.lemmas.Bool.{cases_eq}
 use Rattle.std.specs.declared.cmp.Ordering.{Ordering}
 use Rattle.ordered.specs.Order.{Holds, IsStrictPart}
 use Rattle.ordered.specs.Tables.{Ascending, index_of, with_record, without_key, fits_at}
@@ -23,20 +24,10 @@ module _ {R K : Type 0} (key : R → K) (below : K → K → Bool) {cmp : K → 
   fits d = ap (λ q. fits_at key below xs d q i) (sym is) ∙ sym (told d)
 
   before : (j : ℕ) (d : R) → j < i → Holds below (key (get_or xs j d)) (key new)
-  before j d lt = go (or_cases _ _ (and_parts _ _ (fits d)).0) (cases_eq j (i - 1))
-    where
-      go : (eqb i 0 ≡ true) ⊎ (below (key (get_or xs (i - 1) d)) (key new) ≡ true) → (j ≡ i - 1) ⊎ (j ≡ i - 1 → ⊥) → Holds below (key (get_or xs j d)) (key new)
-      go (inl e) c = let z = eqb-true i 0 e in absurd (omega arith)
-      go (inr h) (inl e) = subst (λ m. Holds below (key (get_or xs m d)) (key new)) (sym e) h
-      go (inr h) (inr ne) = order.chain _ _ _ (up j (i - 1) d (omega arith) (omega arith)) h
+  before j d lt = grind (arith, nat_tests, fits d, cases_eq j (i - 1), up j (i - 1) d, order.chain (key (get_or xs j d)) (key (get_or xs (i - 1) d)) (key new))
 
   behind : (j : ℕ) (d : R) → i < j → j < length xs → Holds below (key new) (key (get_or xs j d))
-  behind j d gt lt = go (or_cases _ _ (and_parts _ _ (fits d)).1) (cases_eq (i + 1) j)
-    where
-      go : (leb (length xs) (i + 1) ≡ true) ⊎ (below (key new) (key (get_or xs (i + 1) d)) ≡ true) → (i + 1 ≡ j) ⊎ (i + 1 ≡ j → ⊥) → Holds below (key new) (key (get_or xs j d))
-      go (inl e) c = let z = leb-true (length xs) (i + 1) e in absurd (omega arith)
-      go (inr h) (inl e) = subst (λ m. Holds below (key new) (key (get_or xs m d))) e h
-      go (inr h) (inr ne) = order.chain _ _ _ h (up (i + 1) j d (omega arith) lt)
+  behind j d gt lt = grind (arith, nat_tests, fits d, cases_eq (i + 1) j, up (i + 1) j d, order.chain (key new) (key (get_or xs (i + 1) d)) (key (get_or xs j d)))
 
   long : length (remove xs i) + 1 ≡ length xs
   long = length-remove xs i within

@@ -1,5 +1,5 @@
 -- A binary search in ascending records. Assumes nothing.
-use Rattle.std.proofs.Common.{◌≡◌, ℕ, ◌+◌, ◌<◌, ◌≤◌, Bool, false, ◌⊎◌, List, length, get_or, Some, None, Result, Ok, Err, sym, ap, ◌∙◌, subst, inl, inr, arith}
+use Rattle.std.proofs.Common.{◌≡◌, ℕ, ◌+◌, ◌<◌, ◌≤◌, Bool, false, List, length, get_or, Some, None, Result, Ok, Err, sym, ◌∙◌, subst, arith}
 use Rattle.std.specs.Cmp.{IsTotalOrder}
 use Rattle.std.specs.List.Sorted.{IsBinarySearchResult, IsNonDecreasingBy, IsSearchInRange}
 use Rattle.std.specs.Ordering.{MatchOrdering, ordering_index}
@@ -9,9 +9,9 @@ use Rattle.std.specs.declared.cmp.Ordering.TheVariants.{Less, Equal, Greater}
 use Rattle.std.proofs.lemmas.Bool.{cases_eq, cases_lt}
 use Rattle.std.proofs.lemmas.List.Sorted.{searchable_from_sorted}
 use Rattle.ordered.specs.Order.{ExactlyOne, Holds, IsStrictPart}
-use Rattle.ordered.specs.Tables.{Ascending, same, index_of, rank_of, either}
+use Rattle.ordered.specs.Tables.{Ascending, index_of, rank_of, either}
 use Rattle.ordered.proofs.Lookups.{at_index, no_index, ranked}
-use Rattle.ordered.proofs.Orders.{not_above, not_itself, same_equal, same_below, same_above, less_below}
+use Rattle.ordered.proofs.Orders.{not_above, same_equal, same_below, less_below}
 
 -- the records before i lie below k, and those from i on above
 abbrev pub Parted : {R K : Type 0} → (R → K) → (K → K → Bool) → List R → K → ℕ → Type 0
@@ -24,24 +24,19 @@ module _ {R K : Type 0} (key : R → K) (below : K → K → Bool) (one : (a b :
     under : (j : ℕ) (d : R) → j < i → Holds below (key (get_or xs j d)) k
     under j d lt = subst (Holds below (key (get_or xs j d))) (has d) (up j i d lt within)
 
-    over : (j : ℕ) (d : R) → j < length xs → (i ≡ j) ⊎ (i ≡ j → ⊥) → i ≤ j → below (key (get_or xs j d)) k ≡ false
-    over j d lt (inl e) le = not_itself below one _ _ (ap (λ m. key (get_or xs m d)) (sym e) ∙ has d)
-    over j d lt (inr ne) le = not_above below one k _ (subst (λ b. Holds below b (key (get_or xs j d))) (has d) (up i j d (omega arith) lt))
+    over : (j : ℕ) (d : R) → i ≤ j → j < length xs → below (key (get_or xs j d)) k ≡ false
+    over j d le lt = grind (arith, cases_eq i j, has d, up i j d, one (key (get_or xs j d)) k)
 
     found_index : Some i ≡ index_of key below xs k
     found_index = sym (at_index key below xs k i within (λ j d lt. same_below below one _ _ (under j d lt)) (λ d. same_equal below one _ _ (has d)))
 
     found_rank : i ≡ rank_of key below xs k
-    found_rank = sym (ranked key below xs k i (omega arith) under (λ j d le lt. over j d lt (cases_eq i j) le))
+    found_rank = sym (ranked key below xs k i (omega arith) under over)
 
   -- none has it
   module _ (i : ℕ) (within : i ≤ length xs) (p : Parted key below xs k i) where
     pub missed_index : None ≡ index_of key below xs k
-    missed_index = sym (no_index key below xs k (λ j d lt. apart j d lt (cases_lt j i)))
-      where
-        apart : (j : ℕ) (d : R) → j < length xs → (j < i) ⊎ (i ≤ j) → same below (key (get_or xs j d)) k ≡ false
-        apart j d lt (inl l) = same_below below one _ _ (p.0 j d l)
-        apart j d lt (inr g) = same_above below one _ _ (p.1 j d g lt)
+    missed_index = sym (no_index key below xs k (λ j d lt. grind (arith, cases_lt j i, p.0 j d, p.1 j d, one (key (get_or xs j d)) k)))
 
     pub missed_rank : i ≡ rank_of key below xs k
     missed_rank = sym (ranked key below xs k i within p.0 (λ j d le lt. not_above below one k _ (p.1 j d le lt)))

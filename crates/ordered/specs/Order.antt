@@ -1,6 +1,6 @@
 -- A total order, given by the test of its strict part. Assumes nothing.
---     ExactlyOne P Q R     one of the three holds, and the other two do not
---     Holds test a b       the test says yes
+--     ExactlyOne P Q R          one of the three holds, and the other two do not
+--     Holds test a b            the test says yes
 --     IsStrictPart below cmp    `below` is the strict part of a total order, and `cmp` answers by it
 use Rattle.std.specs.Prelude.{◌≡◌, Bool, true, ◌⊎◌}
 use Rattle.std.specs.Ordering.{MatchOrdering}
@@ -14,7 +14,7 @@ ExactlyOne P Q R = (P × (Q → ⊥) × (R → ⊥)) ⊎ (((P → ⊥) × Q × (
 abbrev pub Holds : {K : Type 0} → (K → K → Bool) → K → K → Type 0
 Holds test a b = test a b ≡ true
 
--- what every kind of key proves of its order
+-- the laws that every kind of key proves of its order
 pub record IsStrictPart {K : Type 0} (below : K → K → Bool) (cmp : K → K → Ordering) : Type 0 where
   -- `cmp` answers which of the three holds
   pub tells : (a b : K) → MatchOrdering (cmp a b) (Holds below a b) (a ≡ b) (Holds below b a)
