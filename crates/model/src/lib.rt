@@ -7,13 +7,13 @@
 ghost use Rattle.model.specs.Laws.{FormattedSound, StepsKeepSound};
 
 // A call, as a script or a list of calls names it.
-#[derive(Clone, Copy, Debug)]
+#[derive(Clone, Copy, Debug, PartialEq, Eq)]
 pub enum Call {
     Create { number: u32, height: u32 },
 }
 
 // What a granted change answers: how many blocks are owned after it and were not before, and the reverse.
-#[derive(Clone, Copy, Debug)]
+#[derive(Clone, Copy, Debug, Default, PartialEq, Eq)]
 pub struct Changed {
     pub taken: u32,
     pub given: u32,

@@ -65,7 +65,7 @@ impl<'m> Pool<'m> {
         questions::height(height)?;
         questions::free_row(&self.rows)?;
         self.add_row(new_head(number, height))?;
-        Ok(Changed { taken: 0, given: 0 })
+        Ok(Changed::default())
     }
 
     // Puts the row in its place. A pool that was asked first has one, so a refusal means that there is no pool.
