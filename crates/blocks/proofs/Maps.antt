@@ -1,13 +1,14 @@
 -- What the calls of a bitmap do to what it means.
-use Rattle.std.proofs.Common.{◌≡◌, ℕ, ◌-◌, ◌/◌, ◌%◌, ◌<◌, ◌≤◌, Bool, true, false, not, ◌&&◌, ltb, List, length, get_or, drop, replicate, Ok, Err, Result, sym, ap, ◌∙◌, subst, ⊎_elim, arith, length-set}
+use Rattle.std.proofs.Common.{◌≡◌, ℕ, ◌-◌, ◌/◌, ◌%◌, ◌<◌, ◌≤◌, Bool, true, false, not, ◌&&◌, ltb, List, length, get_or, drop, replicate, min, Some, None, Option, MatchOption, Ok, Err, Result, sym, refl, ap, ◌∙◌, subst, ⊎_elim, arith, length-set}
 use native.Mathlib.Nat.{zero-div}
 use Rattle.std.proofs.lemmas.List.{get_or_append_left, get_or-replicate, length-replicate}
 use Rattle.std.proofs.lemmas.Bool.{and_left, and_right, cases_Bool, ltb-true, lt-ltb}
+use Rattle.std.proofs.lemmas.Bool.Decides.{nat_tests}
 use Rattle.faults.specs.declared.MemoryCause.{MemoryCause}
-use Rattle.blocks.specs.Bits.{bit, bits, flipped, cleared}
-use Rattle.blocks.specs.Bitmaps.{needed, marked, mapped, Sound, Kept, Took, Gave, TakesNext, GivesBack}
+use Rattle.blocks.specs.Bits.{bit, bits, flipped, cleared, FirstFree, Taken}
+use Rattle.blocks.specs.Bitmaps.{needed, marked, mapped, NextFree, Sound, Kept, Took, Gave, TakesNext, GivesBack}
 use Rattle.blocks.specs.Meanings.{Unchanged, Taking, Giving}
-use Rattle.blocks.specs.Sets.{Joins, count}
+use Rattle.blocks.specs.Sets.{Full, Joins, count}
 use Rattle.blocks.specs.declared.NotOwned.{NotOwned}
 use Rattle.blocks.specs.declared.bitmap.Bitmap.{Bitmap}
 use Rattle.blocks.proofs.Changes.{free_less, free_more, owned_unchanged}
@@ -109,3 +110,12 @@ module _ (size : ℕ) (bytes was : List ℕ) (clear : bytes ≡ cleared (needed 
   -- every block is free
   pub new_counted : size ≡ size - count (marked size bytes) size
   new_counted = omega (arith, count_empty (marked size bytes) size (λ k _. new_empty k))
+
+-- the first free block from the cursor on, else the first one before it
+module _ (size cursor : ℕ) (bytes : List ℕ) where
+  pub goes_round : (ahead first : Option ℕ) → MatchOption ahead (Taken (bits bytes) cursor size) (λ n. FirstFree (bits bytes) cursor size n)
+      → (ahead ≡ None → MatchOption first (Taken (bits bytes) 0 (min cursor size)) (λ n. FirstFree (bits bytes) 0 (min cursor size) n)) → ((n : ℕ) → ahead ≡ Some n → first ≡ Some n)
+      → MatchOption first (Full (marked size bytes) size) (λ n. NextFree (marked size bytes) cursor size n)
+  goes_round (Some n) first ahead else same = subst (λ r. MatchOption r (Full (marked size bytes) size) (λ n. NextFree (marked size bytes) cursor size n)) (sym (same n refl)) (grind (arith, nat_tests))
+  goes_round None None ahead else same = let before = else refl in grind (arith, nat_tests)
+  goes_round None (Some n) ahead else same = let before = else refl in grind (arith, nat_tests)

@@ -41,6 +41,11 @@ clear_all : all 256 (λ v. all 8 (λ a. is_clear v a (a + count_trailing_zeros 8
 unfolding all runs is_clear count_trailing_zeros
 clear_all = refl
 
+-- a full byte
+pub full : (k : ℕ) → k < 8 → bit 255 k ≡ true
+unfolding all
+full k h = all_at 8 (bit 255) refl k h
+
 cond_guard : (a b : Bool) → cond a b true ≡ true → a ≡ true → b ≡ true
 cond_guard true b e h = e
 cond_guard false b e h = absurd (let z : ◌≡◌ {A = ℕ} 0 1 = cc in omega arith)

@@ -1,5 +1,4 @@
 -- A bitmap: what it means, when it is sound, and what its calls do to it. Assumes nothing.
---     most                 the largest size
 --     needed n             how many bytes hold n bits
 --     Suits n room         a map of n blocks fits `room` bytes
 --     marked n bytes       the owned blocks: those below n whose bit is 1
@@ -22,12 +21,9 @@ use Rattle.faults.specs.declared.MemoryCause.TheVariants.{BadShape, BlocksShort}
 use Rattle.blocks.specs.Bits.{bits, cleared, flipped}
 use Rattle.blocks.specs.Meanings.{Meaning, free}
 use Rattle.blocks.specs.Sets.{Full}
+use Rattle.blocks.specs.Sizes.{most, SizeFits}
 use Rattle.blocks.specs.declared.NotOwned.{NotOwned}
 use Rattle.blocks.specs.declared.bitmap.Bitmap.{Bitmap}
-
--- the largest size
-abbrev pub most : ℕ
-most = 32768
 
 -- how many bytes hold n bits
 abbrev pub needed : ℕ → ℕ
@@ -35,7 +31,7 @@ needed n = (n + 7) / 8
 
 -- a map of n blocks fits so many bytes
 abbrev pub Suits : ℕ → ℕ → Type 0
-Suits n room = (1 ≤ n) × (n ≤ most) × (needed n ≤ room)
+Suits n room = SizeFits n (needed n) room
 
 -- the owned blocks: those below n whose bit is 1
 abbrev pub marked : ℕ → List ℕ → ℕ → Bool

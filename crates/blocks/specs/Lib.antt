@@ -1,3 +1,4 @@
+pub mod Sizes
 pub mod Sets
 pub mod Meanings
 pub mod Bits

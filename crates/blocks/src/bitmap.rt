@@ -5,11 +5,8 @@ ghost use Rattle.faults.specs.declared.MemoryCause.TheVariants.{BadShape};
 ghost use Rattle.blocks.specs.Bitmaps.{Makes, Suits, needed, mapped, Sound, Next, Spent, past, TakesNext, GivesBack};
 ghost use Rattle.blocks.specs.Meanings.{Taking, Giving};
 
-use crate::{BlockAllocator, NotOwned, bits};
+use crate::{BlockAllocator, NotOwned, bits, check_size};
 use faults::MemoryCause;
-
-// The largest size.
-const MOST: u32 = 32_768;
 
 // Takes the first free block at or after its cursor, and from 0 on past the end.
 #[derive(Drop)]
@@ -25,18 +22,7 @@ pub struct Bitmap<'m> {
 fn bytes_for(size: u32) -> usize
     ensures value { result ≡ needed size }
 {
-    (size as usize + 7) / 8
-}
-
-// Whether a map of that size fits so many bytes.
-fn suits(size: u32, room: usize) -> Result<(), MemoryCause>
-    ensures value { MatchResult result (λ _. Suits size room) (λ cause. (cause ≡ BadShape) × (Suits size room → ⊥)) }
-{
-    if 1 <= size && size <= MOST && bytes_for(size) <= room {
-        Ok(())
-    } else {
-        Err(MemoryCause::BadShape)
-    }
+    (size as usize).div_ceil(8)
 }
 
 // The cursor after a block was taken.
@@ -48,15 +34,17 @@ fn after(n: u32, size: u32) -> u32
 }
 
 impl<'m> Bitmap<'m> {
-    // A map that owns nothing, whatever the bytes held; where it is refused, of size 0.
+    // A map that owns nothing, whatever the bytes held; where it is refused, of size 0. A pair, and no `Result` of a
+    // map, since a refused one is an allocator too.
+    #[tactic(auto, using(crate::proofs::Maps::new_empty, crate::proofs::Maps::new_counted))]
     pub fn new(bytes: &'m mut [u8], size: u32) -> (Bitmap<'m>, Result<(), MemoryCause>)
         ensures made { Makes size bytes.old result.0 result.1 }
         ensures start { result.0.cursor ≡ 0 }
         ensures empty { (k : ℕ) → (mapped result.0).owns k ≡ false }
         ensures sound { Sound result.0 }
     {
-        let made = suits(size, bytes.len());
-        let size = if made.is_ok() { size } else { 0 };
+        let made = check_size(size, bytes_for(size), bytes.len());
+        let size = made.map_or(0, |()| size);
         bits::clear(bytes, bytes_for(size));
         let map = Bitmap {
             bytes,
@@ -78,19 +66,17 @@ impl<'m> Bitmap<'m> {
     fn next_free(&self) -> Option<u32>
         ensures value { MatchOption result (Spent self.now) (λ n. Next self.now n) }
     {
-        match bits::first_clear(self.bytes, self.cursor, self.size) {
-            Some(n) => Some(n),
-            None => bits::first_clear(self.bytes, 0, self.cursor.min(self.size)),
-        }
+        let bytes = &*self.bytes;
+        let before = self.cursor.min(self.size);
+        let ahead = bits::first_clear(bytes, self.cursor, self.size);
+        ahead.or_else(|| bits::first_clear(bytes, 0, before))
     }
 
     // Takes the next free block, and moves the cursor past it.
     fn take_next(&mut self) -> Result<u32, MemoryCause>
         ensures next { TakesNext self.old self.new result }
     {
-        let Some(n) = self.next_free() else {
-            return Err(MemoryCause::BlocksShort);
-        };
+        let n = self.next_free().ok_or(MemoryCause::BlocksShort)?;
         bits::flip(self.bytes, n);
         self.cursor = after(n, self.size);
         self.left = self.left.saturating_sub(1);
@@ -127,6 +113,7 @@ impl BlockAllocator for Bitmap<'_> {
         self.has(n)
     }
 
+    #[tactic(auto, using(crate::proofs::Maps::takes, crate::proofs::Maps::take_sound))]
     fn take(&mut self) -> Result<u32, MemoryCause>
         ensures takes { Sound self.old → Taking (mapped self.old) (mapped self.new) result }
         ensures sound { Sound self.old → Sound self.new }
@@ -135,6 +122,7 @@ impl BlockAllocator for Bitmap<'_> {
         self.take_next()
     }
 
+    #[tactic(auto, using(crate::proofs::Maps::gives, crate::proofs::Maps::give_sound))]
     fn give(&mut self, n: u32) -> Result<(), NotOwned>
         ensures gives { Sound self.old → Giving (mapped self.old) n (mapped self.new) result }
         ensures sound { Sound self.old → Sound self.new }

