@@ -22,9 +22,6 @@ mod sizes;
 pub use bitmap::Bitmap;
 pub use sizes::{MOST_BLOCKS, check_size};
 
-#[cfg(test)]
-mod tests;
-
 // A block that is not owned can't be given back.
 #[derive(Clone, Copy, Debug, PartialEq, Eq)]
 pub struct NotOwned;

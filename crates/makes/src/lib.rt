@@ -12,6 +12,9 @@ use faults::MemoryCause;
 use ranges::RangeMap;
 use records::ranges::FreeRange;
 
+#[cfg(test)]
+mod tests;
+
 // The makes of allocator.
 #[derive(Clone, Copy, Debug, PartialEq, Eq)]
 pub enum Make {
@@ -19,11 +22,22 @@ pub enum Make {
     Ranges,
 }
 
-// An allocator of either make.
+// An allocator of either make. An enum, since a caller chooses as it runs and keeps the allocator by value: a `dyn`
+// can't be a field.
 #[derive(Drop)]
 pub enum AnyAllocator<'m> {
     Bits(Bitmap<'m>),
     Ranges(RangeMap<'m>),
+}
+
+// Does the same with an allocator of either make.
+macro_rules! for_both {
+    ($any:expr, $map:pat => $result:expr) => {
+        match $any {
+            AnyAllocator::Bits($map) => $result,
+            AnyAllocator::Ranges($map) => $result,
+        }
+    };
 }
 
 impl<'m> AnyAllocator<'m> {
@@ -58,37 +72,22 @@ impl BlockAllocator for AnyAllocator<'_> {
     ghost meaning = { meaning_of };
 
     fn size(&self) -> u32 {
-        match self {
-            AnyAllocator::Bits(map) => map.size(),
-            AnyAllocator::Ranges(map) => map.size(),
-        }
+        for_both!(self, map => map.size())
     }
 
     fn free_count(&self) -> u32 {
-        match self {
-            AnyAllocator::Bits(map) => map.free_count(),
-            AnyAllocator::Ranges(map) => map.free_count(),
-        }
+        for_both!(self, map => map.free_count())
     }
 
     fn is_owned(&self, n: u32) -> bool {
-        match self {
-            AnyAllocator::Bits(map) => map.is_owned(n),
-            AnyAllocator::Ranges(map) => map.is_owned(n),
-        }
+        for_both!(self, map => map.is_owned(n))
     }
 
     fn take(&mut self) -> Result<u32, MemoryCause> {
-        match self {
-            AnyAllocator::Bits(map) => map.take(),
-            AnyAllocator::Ranges(map) => map.take(),
-        }
+        for_both!(self, map => map.take())
     }
 
     fn give(&mut self, n: u32) -> Result<(), NotOwned> {
-        match self {
-            AnyAllocator::Bits(map) => map.give(n),
-            AnyAllocator::Ranges(map) => map.give(n),
-        }
+        for_both!(self, map => map.give(n))
     }
 }

@@ -6,9 +6,10 @@ use Rattle.ordered.specs.Lent.{records, room}
 use Rattle.ordered.specs.declared.tables.Table.{Table}
 use Rattle.records.specs.declared.ranges.FreeRange.{FreeRange}
 use Rattle.blocks.specs.Sets.{count}
+use Rattle.blocks.specs.Sizes.{most}
 use Rattle.blocks.proofs.Counts.{count_empty, count_full}
 use Rattle.ranges.specs.Maps.{map_of, Sound}
-use Rattle.ranges.specs.Ranges.{most, within, in_some, apart, held, without, last_before, has, Suits}
+use Rattle.ranges.specs.Ranges.{within, in_some, apart, held, without, last_before, has, Suits}
 use Rattle.ranges.specs.Steps.{Regular, Fitting, Put}
 use Rattle.ranges.specs.declared.range_map.RangeMap.{RangeMap}
 use Rattle.ranges.proofs.Lasts.{last_in}

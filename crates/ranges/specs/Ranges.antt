@@ -1,5 +1,4 @@
 -- Free ranges of blocks, kept by their first block. Assumes nothing.
---     most                the largest size
 --     within r k          block k lies in the range r
 --     in_some rs k        block k lies in one of the ranges
 --     apart low n rs      the ranges stand apart: from block low on and below n, ascending, none empty, none adjacent
@@ -18,14 +17,11 @@
 --     Suits n places      a map of n blocks can be made over so many places
 use Rattle.std.specs.Prelude.{◌≡◌, ℕ, ◌+◌, ◌-◌, ◌/◌, ◌<◌, ◌≤◌, Bool, true, false, cond, not, ◌&&◌, ◌||◌, List, [], ◌∷◌, length, Some, None, Option, ◌==◌, nat_le, nat_lt, slice_index_or}
 use Rattle.std.specs.List.{IsFirstMaxByKey}
+use Rattle.blocks.specs.Sizes.{SizeFits}
 use Rattle.ordered.specs.Tables.{record_of, without_key}
 use Rattle.records.specs.Keys.{first_of, first_below}
 use Rattle.records.specs.declared.ranges.FreeRange.{FreeRange}
 use Rattle.records.specs.declared.ranges.FirstBlock.{FirstBlock}
-
--- the largest size
-abbrev pub most : ℕ
-most = 32768
 
 -- from its first block on, as many as its length
 abbrev pub within : FreeRange → ℕ → Bool
@@ -100,6 +96,6 @@ joined l k r = record { first = k - l; length = l + 1 + r }
 abbrev pub Longest : List FreeRange → FreeRange → Type 0
 Longest rs r = (i : ℕ) × IsFirstMaxByKey (λ (x : FreeRange). x.length) rs (length rs) i × ((d : FreeRange) → slice_index_or rs i d ≡ r)
 
--- the size is from 1 to the largest, and there are places for every second block
+-- there are places for every second block
 abbrev pub Suits : ℕ → ℕ → Type 0
-Suits n places = (1 ≤ n) × (n ≤ most) × ((n + 1) / 2 ≤ places)
+Suits n places = SizeFits n ((n + 1) / 2) places

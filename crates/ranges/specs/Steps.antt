@@ -10,10 +10,11 @@
 --     Gave n t b u           the table u is t with block b given back
 use Rattle.std.specs.Prelude.{◌≡◌, ℕ, ◌+◌, ◌/◌, ◌<◌, ◌≤◌, true, false, ◌||◌, List}
 use Rattle.blocks.specs.Sets.{Joins}
+use Rattle.blocks.specs.Sizes.{most}
 use Rattle.ordered.specs.Lent.{records, room}
 use Rattle.ordered.specs.declared.tables.Table.{Table}
 use Rattle.records.specs.declared.ranges.FreeRange.{FreeRange}
-use Rattle.ranges.specs.Ranges.{most, within, in_some, apart, held, range_at, without}
+use Rattle.ranges.specs.Ranges.{within, in_some, apart, held, range_at, without}
 
 -- maximal ranges, with a place for every second block
 pub record Regular (n : ℕ) (t : Table FreeRange) : Type 0 where

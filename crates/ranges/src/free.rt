@@ -12,27 +12,15 @@ use records::ranges::{FirstBlock, FreeRange};
 pub(crate) fn longest(ranges: &[FreeRange]) -> Option<FreeRange>
     ensures value { MatchOption result (length ranges.now ≡ 0) (λ x. Longest ranges.now x) }
 {
-    if ranges.is_empty() {
-        return None;
-    }
-    let mut best = 0;
-    for i in 1..ranges.len() {
-        if is_longer(ranges[i], ranges[best]) {
-            best = i;
-        }
-    }
-    Some(ranges[best])
+    ranges.iter().copied().reduce(|best, range| if is_longer(range, best) { range } else { best })
 }
 
 // The last range that begins before block n.
 pub(crate) fn before(ranges: &Table<FreeRange>, n: u32) -> Option<FreeRange>
     ensures value { (m : ℕ) → Regular m ranges.now → result ≡ last_before (records ranges.now) n }
 {
-    let at = ranges.rank(FirstBlock(n));
-    if at == 0 {
-        return None;
-    }
-    Some(ranges.records()[at - 1])
+    let at = ranges.rank(FirstBlock(n)).checked_sub(1)?;
+    Some(ranges.records()[at])
 }
 
 // Puts the range in the place of the one that begins where it does, or else among the others. There is always a place

@@ -15,8 +15,6 @@ ghost use Rattle.ranges.specs.Runs.{RangesAreRuns};
 mod free;
 mod range;
 mod range_map;
-#[cfg(test)]
-mod tests;
 
 pub use range_map::RangeMap;
 

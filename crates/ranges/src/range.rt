@@ -30,30 +30,21 @@ pub(crate) fn is_longer(range: FreeRange, other: FreeRange) -> bool
 pub(crate) fn is_out(size: u32, before: Option<FreeRange>, n: u32) -> bool
     ensures value { result ≡ (nat_lt n size && not (has before n)) }
 {
-    match before {
-        Some(range) => n < size && !holds(range, n),
-        None => n < size,
-    }
+    n < size && !before.is_some_and(|range| holds(range, n))
 }
 
 // The length of the range before block n where it ends there, else 0.
 pub(crate) fn left_of(before: Option<FreeRange>, n: u32) -> u32
     ensures value { result ≡ reach before n }
 {
-    match before {
-        Some(range) if meets(range, n) => range.length,
-        _ => 0,
-    }
+    length_of(before.filter(|range| meets(*range, n)))
 }
 
 // The length of the range after a block, or 0 where there is none.
 pub(crate) fn length_of(after: Option<FreeRange>) -> u32
     ensures value { result ≡ long after }
 {
-    match after {
-        Some(range) => range.length,
-        None => 0,
-    }
+    after.map_or(0, |range| range.length)
 }
 
 // The range without its first block.

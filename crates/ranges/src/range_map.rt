@@ -1,18 +1,14 @@
 // A map of free ranges, and its calls.
-ghost use Rattle.std.specs.Prelude.{◌≡◌, ℕ, false, length, Decides};
+ghost use Rattle.std.specs.Prelude.{◌≡◌, ℕ, false, length};
 ghost use Rattle.blocks.specs.Meanings.{Taking};
 ghost use Rattle.ranges.specs.Maps.{map_of, Makes, Sound, TakesLongest};
-ghost use Rattle.ranges.specs.Ranges.{Suits};
 
 use crate::free::{before, longest, put, put_back, take_first};
 use crate::range::{is_out, left_of};
-use blocks::{BlockAllocator, NotOwned};
+use blocks::{BlockAllocator, NotOwned, check_size};
 use faults::MemoryCause;
 use ordered::tables::Table;
 use records::ranges::FreeRange;
-
-// The largest size.
-const MOST: u32 = 32_768;
 
 // An allocator over the caller's ranges.
 #[derive(Drop)]
@@ -23,41 +19,31 @@ pub struct RangeMap<'m> {
     spare: u32,
 }
 
-// Whether a map of so many blocks can be made over so many places.
-fn suits(size: u32, places: usize) -> bool
-    ensures value { Decides result (Suits size places) }
-{
-    size >= 1 && size <= MOST && (size as usize + 1) / 2 <= places
-}
-
 impl<'m> RangeMap<'m> {
-    // A map that owns nothing, whatever the places held. One that is made despite the refusal has no blocks.
+    // A map that owns nothing, whatever the places held; where it is refused, of size 0. A pair, and no `Result` of a
+    // map, since a refused one is an allocator too.
+    #[tactic(auto, using(crate::proofs::Maps::empty_regular, crate::proofs::Maps::all_fits, crate::proofs::Maps::owns_none, crate::proofs::Maps::new_sound))]
     pub fn new(places: &'m mut [FreeRange], size: u32) -> (RangeMap<'m>, Result<(), MemoryCause>)
         ensures made { Makes size (length places.old) result.0 result.1 }
         ensures empty { (k : ℕ) → (map_of result.0).owns k ≡ false }
         ensures sound { Sound result.0 }
     {
-        let fits = suits(size, places.len());
+        let made = check_size(size, (size as usize).div_ceil(2), places.len());
+        let size = made.map_or(0, |()| size);
         let mut ranges = Table::new(places);
-        if !fits {
-            let none = RangeMap {
-                ranges,
-                size: 0,
-                spare: 0,
+        if size > 0 {
+            let all = FreeRange {
+                first: 0,
+                length: size,
             };
-            return (none, Err(MemoryCause::BadShape));
+            put(&mut ranges, all);
         }
-        let all = FreeRange {
-            first: 0,
-            length: size,
-        };
-        put(&mut ranges, all);
         let map = RangeMap {
             ranges,
             size,
             spare: size,
         };
-        (map, Ok(()))
+        (map, made)
     }
 }
 
@@ -84,9 +70,7 @@ impl BlockAllocator for RangeMap<'_> {
         ensures sound { Sound self.old → Sound self.new }
         ensures longest { Sound self.old → TakesLongest self.old result }
     {
-        let Some(range) = longest(self.ranges.records()) else {
-            return Err(MemoryCause::BlocksShort);
-        };
+        let range = longest(self.ranges.records()).ok_or(MemoryCause::BlocksShort)?;
         take_first(&mut self.ranges, range);
         self.spare = self.spare.saturating_sub(1);
         Ok(range.first)

@@ -1,37 +1,26 @@
-use Rattle.std.proofs.Common.{◌≡◌, ℕ, ◌+◌, ◌<◌, List, length, get_or, sym, ap, ◌∙◌, subst, arith}
-use Rattle.std.specs.List.{IsFirstMaxByKey}
+use Rattle.std.proofs.Common.{◌≡◌, ltb, List, ◌∷◌, length, Option, None, Some, MatchOption, sym, ◌∙◌, subst, rules}
+use Rattle.std.specs.List.{best_of}
+use Rattle.std.proofs.lemmas.Bool.{ltb-true, ltb-false}
 use Rattle.std.proofs.lemmas.List.{get_or_default}
-use Rattle.std.proofs.lemmas.List.Sums.{best_takes, best_keeps}
-use Rattle.std.proofs.lemmas.Bool.{eqb-false, ltb-true, ltb-false}
+use Rattle.std.proofs.lemmas.List.MinMax.{IsFirstBest-from_best_of, IsStrictWeakOrder-by_number, IsStrictWeakOrder-flip}
 use Rattle.records.specs.declared.ranges.FreeRange.{FreeRange}
+use Rattle.ranges.specs.Ranges.{Longest}
 use Rattle.ranges.proofs.free.longest.Goals as goal
-use Rattle.ranges.proofs.free.longest.Goals.{then-is_longer, else-is_longer}
 
-any : (xs : List FreeRange) (i : ℕ) (z d : FreeRange) → i < length xs → (get_or xs i z).length ≡ (get_or xs i d).length
-any xs i z d h = ap (λ (r : FreeRange). r.length) (get_or_default xs i z d h)
+-- y is the best of the ranges xs, gone through from the first on
+abbrev Best : List FreeRange → FreeRange → Type 0
+Best xs y = (x : FreeRange) × (rest : List FreeRange) × (xs ≡ x ∷ rest) × (y ≡ best_of (λ r best. ltb best.length r.length) x rest)
 
-pub loop-i-preserved : goal.loop-i-preserved
-loop-i-preserved c =
-    let xs = c.args.ranges.now in
-    let i = c.loop-i.i in
-    let b = c.loop-i.best in
-    let z : FreeRange = record { first = 0; length = 0 } in
-    let inv = c.loop-i.invariant in
-    let hi : i < length xs = omega arith in
-    let hb : b < length xs = omega (arith, inv.0) in
-    elim c.if-is_longer.branch [
-      | then-is_longer w ↦ subst (λ (m : ℕ). IsFirstMaxByKey (λ (x : FreeRange). x.length) xs (i + 1) m) (sym w.best-is)
-          (best_takes (λ (x : FreeRange). x.length) xs i b inv (λ d. let h = ltb-true _ _ (sym c.is_longer.ensures.value ∙ w.if-is_longer.true) in omega (arith, any xs i z d hi, any xs b z d hb)))
-      | else-is_longer w ↦ subst (λ (m : ℕ). IsFirstMaxByKey (λ (x : FreeRange). x.length) xs (i + 1) m) (sym w.best-is)
-          (best_keeps (λ (x : FreeRange). x.length) xs i b inv (λ d. let h = ltb-false _ _ (sym c.is_longer.ensures.value ∙ w.if-is_longer.false) in omega (arith, any xs i z d hi, any xs b z d hb)))
-    ]
+longest_of : (xs : List FreeRange) (r : Option FreeRange) → MatchOption r (length xs ≡ 0) (Best xs) → MatchOption r (length xs ≡ 0) (Longest xs)
+longest_of xs None h = h
+longest_of xs (Some y) (x, rest, is, best) =
+    let order = IsStrictWeakOrder-flip _ (IsStrictWeakOrder-by_number (λ (r : FreeRange). r.length)) in
+    let first = IsFirstBest-from_best_of order x rest in
+    subst (λ xs. Longest xs y) (sym is)
+    (first.0, (first.1.0, (λ k d h. ltb-false _ _ (first.1.1 k d h)), (λ k d h. ltb-true _ _ (first.1.2 k d h))), λ d. get_or_default (x ∷ rest) first.0 d x first.1.0 ∙ first.2 ∙ sym best)
 
 pub returns : goal.returns
 returns c =
     let xs = c.args.ranges.now in
-    let b = c.loop-i.best in
-    let z : FreeRange = record { first = 0; length = 0 } in
-    let some = eqb-false (length xs) 0 (sym c.is_empty.ensures ∙ c.if-is_empty.false) in
-    let end : c.loop-i.i ≡ length xs = omega arith in
-    let best : IsFirstMaxByKey (λ (x : FreeRange). x.length) xs (length xs) b = subst (λ (i : ℕ). IsFirstMaxByKey (λ (x : FreeRange). x.length) xs i b) end c.loop-i.invariant in
-    record { value = (b, best, λ d. get_or_default xs b d z best.0) }
+    let best : MatchOption c.reduce.result (length xs ≡ 0) (Best xs) = search rules in
+    record { value = longest_of xs c.reduce.result best }
