@@ -28,20 +28,20 @@ const TURNS: [Turn; 12] = [
     Turn::Take,
 ];
 
-fn print_turn(rt: &HostRuntime, blocks: &mut AnyAllocator<'_>, turn: Turn) -> io::Result<()> {
+fn print_turn(rt: &impl Print, blocks: &mut AnyAllocator<'_>, turn: Turn) -> io::Result<()> {
     match turn {
         Turn::Take => match blocks.take() {
             Ok(block) => println!(rt; "  take: {block}"),
             Err(_) => println!(rt; "  take: refused"),
         },
-        Turn::Give(block) => match blocks.give(block) {
-            Ok(()) => println!(rt; "  give {block}: done"),
-            Err(_) => println!(rt; "  give {block}: refused"),
-        },
+        Turn::Give(block) => {
+            let answer = blocks.give(block).map_or("refused", |()| "done");
+            println!(rt; "  give {block}: {answer}")
+        }
     }
 }
 
-fn print_all(rt: &HostRuntime, name: &str, make: Make) -> io::Result<()> {
+fn print_all(rt: &impl Print, name: &str, make: Make) -> io::Result<()> {
     let mut bits = [0u8; 1];
     let mut ranges = [FreeRange::UNUSED; 3];
     let (mut blocks, made) = AnyAllocator::new(make, 6, &mut bits, &mut ranges);
