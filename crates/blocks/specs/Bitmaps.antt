@@ -14,7 +14,7 @@
 --     Kept b w             w is b
 --     TakesNext b w r      a take that answers r goes from b to w
 --     GivesBack b n w r    a give of block n that answers r goes from b to w
-use Rattle.std.specs.Prelude.{◌≡◌, ℕ, ◌+◌, ◌-◌, ◌/◌, ◌^◌, ◌<◌, ◌≤◌, min, Bool, true, false, cond, ◌&&◌, List, length, Ok, Err, Result, nat_le, nat_lt}
+use Rattle.std.specs.Prelude.{◌≡◌, ℕ, ◌+◌, ◌-◌, ◌/◌, ◌^◌, ◌<◌, ◌≤◌, min, Bool, true, false, if◌then◌else◌, ◌&&◌, List, length, Ok, Err, Result, nat_le, nat_lt}
 use Rattle.std.proofs.lemmas.Bool.{and_parts, ltb-true}
 use Rattle.faults.specs.declared.MemoryCause.{MemoryCause}
 use Rattle.faults.specs.declared.MemoryCause.TheVariants.{BadShape, BlocksShort}
@@ -57,7 +57,7 @@ Makes n was b (Err cause) = (cause ≡ BadShape) × (Suits n (length was) → �
 
 -- when block n comes in going round from a: n from a on, and n on the next round, which begins at b, before a
 abbrev pub turn : ℕ → ℕ → ℕ → ℕ
-turn a b n = cond (nat_le a n) n (b + n)
+turn a b n = if nat_le a n then n else b + n
 
 -- the block that comes first in going round from a, of those below b that s has not
 pub record NextFree (s : ℕ → Bool) (a b n : ℕ) : Type 0 where
@@ -75,7 +75,7 @@ Spent b = Full (mapped b).owns b.size
 
 -- the cursor after block n of b
 abbrev pub past : ℕ → ℕ → ℕ
-past n b = cond (nat_lt (n + 1) b) (n + 1) 0
+past n b = if nat_lt (n + 1) b then n + 1 else 0
 
 -- block n's bit is turned, the cursor is past it, and one block less is free
 pub record Took (b : Bitmap) (n : ℕ) (w : Bitmap) : Type 0 where

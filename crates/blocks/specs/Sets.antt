@@ -6,12 +6,12 @@
 --     Apart s t n           no number below n is in both
 --     union s t             what s or t has
 --     Counting              the laws of count
-use Rattle.std.specs.Prelude.{◌≡◌, ℕ, zero, suc, ◌+◌, ◌-◌, ◌<◌, ◌≤◌, Bool, true, false, cond, ◌||◌, ◌≢◌}
+use Rattle.std.specs.Prelude.{◌≡◌, ℕ, zero, suc, ◌+◌, ◌-◌, ◌<◌, ◌≤◌, Bool, true, false, if◌then◌else◌, ◌||◌, ◌≢◌}
 
 -- how many of the numbers below n the set s has
 unfoldable pub count : (ℕ → Bool) → ℕ → ℕ
 count s zero = 0
-count s (suc n) = cond (s n) 1 0 + count s n
+count s (suc n) = (if s n then 1 else 0) + count s n
 
 -- t is s with n, which s has not
 pub record Joins (s : ℕ → Bool) (n : ℕ) (t : ℕ → Bool) : Type 0 where
@@ -42,7 +42,7 @@ union s t k = s k || t k
 -- the laws of count: its two steps, one number more or less, equal sets, its bounds and where it meets them, unions
 pub record Counting : Type 0 where
   pub start : (s : ℕ → Bool) → count s 0 ≡ 0
-  pub step : (s : ℕ → Bool) (n : ℕ) → count s (n + 1) ≡ count s n + cond (s n) 1 0
+  pub step : (s : ℕ → Bool) (n : ℕ) → count s (n + 1) ≡ count s n + (if s n then 1 else 0)
   pub more : (s t : ℕ → Bool) (k n : ℕ) → Joins s k t → k < n → count t n ≡ count s n + 1
   pub less : (s t : ℕ → Bool) (k n : ℕ) → Joins s k t → k < n → count s n ≡ count t n - 1
   pub same : (s t : ℕ → Bool) (n : ℕ) → Same s t n → count t n ≡ count s n

@@ -6,7 +6,6 @@ use Rattle.ordered.specs.Lent.{records, room}
 use Rattle.ordered.specs.declared.tables.Table.{Table}
 use Rattle.records.specs.declared.ranges.FreeRange.{FreeRange}
 use Rattle.blocks.specs.Sets.{count}
-use Rattle.blocks.specs.Sizes.{most}
 use Rattle.blocks.proofs.Counts.{count_empty, count_full}
 use Rattle.ranges.specs.Maps.{map_of, Sound}
 use Rattle.ranges.specs.Ranges.{within, in_some, apart, held, without, last_before, has, Suits}
@@ -15,15 +14,11 @@ use Rattle.ranges.specs.declared.range_map.RangeMap.{RangeMap}
 use Rattle.ranges.proofs.Lasts.{last_in}
 
 -- by o, the last range that begins at or before block k
-pub looked : (m : RangeMap) (k next : ℕ) (o : Option FreeRange) (b : Bool) → (k < most → next ≡ k + 1) → ((n : ℕ) → Regular n m.ranges → o ≡ last_before (records m.ranges) next)
-    → b ≡ (ltb k m.size && not (has o k)) → Sound m → b ≡ (map_of m).owns k
-looked m k next o b is last answer s = answer ∙ go (cases_Bool (ltb k m.size))
+pub looked : (m : RangeMap) (k : ℕ) (o : Option FreeRange) → Sound m → (k < m.size → o ≡ last_before (records m.ranges) (k + 1)) → (ltb k m.size && not (has o k)) ≡ (map_of m).owns k
+looked m k o s last = go (cases_Bool (ltb k m.size))
   where
-    at : k < m.size → o ≡ last_before (records m.ranges) (k + 1)
-    at lt = last m.size s.regular ∙ ap (last_before (records m.ranges)) (is (omega (arith, s.regular.few)))
-
     go : (ltb k m.size ≡ true) ⊎ (ltb k m.size ≡ false) → (ltb k m.size && not (has o k)) ≡ (map_of m).owns k
-    go (inl below) = ap (λ (b : Bool). ltb k m.size && not b) (ap (λ o. has o k) (at (ltb-true k m.size below)) ∙ sym (last_in m.size k (records m.ranges) s.regular.maximal))
+    go (inl below) = ap (λ (b : Bool). ltb k m.size && not b) (ap (λ o. has o k) (last (ltb-true k m.size below)) ∙ sym (last_in m.size k (records m.ranges) s.regular.maximal))
     go (inr past) = and_left _ _ past ∙ sym (and_left _ _ past)
 
 -- where no range is free, all blocks are owned

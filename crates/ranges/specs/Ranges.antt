@@ -15,7 +15,7 @@
 --     joined l k r        block k with l blocks before it and r after it
 --     Longest rs r        r is the longest of the ranges, the lowest among equals
 --     Suits n places      a map of n blocks can be made over so many places
-use Rattle.std.specs.Prelude.{◌≡◌, ℕ, ◌+◌, ◌-◌, ◌/◌, ◌<◌, ◌≤◌, Bool, true, false, cond, not, ◌&&◌, ◌||◌, List, [], ◌∷◌, length, Some, None, Option, ◌==◌, nat_le, nat_lt, slice_index_or}
+use Rattle.std.specs.Prelude.{◌≡◌, ℕ, ◌+◌, ◌-◌, ◌/◌, ◌<◌, ◌≤◌, Bool, true, false, if◌then◌else◌, not, ◌&&◌, ◌||◌, List, [], ◌∷◌, length, Some, None, Option, ◌==◌, nat_le, nat_lt, slice_index_or}
 use Rattle.std.specs.List.{IsFirstMaxByKey}
 use Rattle.blocks.specs.Sizes.{SizeFits}
 use Rattle.ordered.specs.Tables.{record_of, without_key}
@@ -61,7 +61,7 @@ or_else (Some y) x = Some y
 -- the last of those that begin before block k
 abbrev pub last_before : List FreeRange → ℕ → Option FreeRange
 last_before [] k = None
-last_before (r ∷ rs) k = cond (nat_lt r.first k) (or_else (last_before rs k) r) None
+last_before (r ∷ rs) k = if nat_lt r.first k then or_else (last_before rs k) r else None
 
 -- there is a range, and it holds block k
 abbrev pub has : Option FreeRange → ℕ → Bool
@@ -76,7 +76,7 @@ long (Some r) = r.length
 -- there is a range, and it ends right before block k: its length
 abbrev pub reach : Option FreeRange → ℕ → ℕ
 reach None k = 0
-reach (Some r) k = cond (r.first + r.length == k) r.length 0
+reach (Some r) k = if r.first + r.length == k then r.length else 0
 
 -- the range of l blocks before block k is one of rs; where l is 0, the block before k is not free
 pub record Reaches (rs : List FreeRange) (k l : ℕ) : Type 0 where

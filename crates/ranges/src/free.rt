@@ -1,8 +1,8 @@
 // The steps of a take and a give on the table of free ranges.
-ghost use Rattle.std.specs.Prelude.{◌≡◌, ℕ, true, length, Some, MatchOption};
+ghost use Rattle.std.specs.Prelude.{◌≡◌, ℕ, ◌+◌, ◌<◌, true, length, Some, MatchOption};
 ghost use Rattle.ordered.specs.Lent.{records};
-ghost use Rattle.ranges.specs.Ranges.{held, range_at, without, last_before, Reaches, Longest};
-ghost use Rattle.ranges.specs.Steps.{Regular, Fitting, Put, Changed, CutAfter, Took, Gave};
+ghost use Rattle.ranges.specs.Ranges.{held, range_at, without, last_before, Longest};
+ghost use Rattle.ranges.specs.Steps.{Regular, Fitting, Put, Changed, CutAfter, Took, GivesBack};
 
 use crate::range::{is_longer, join, length_of, rest};
 use ordered::tables::Table;
@@ -15,11 +15,12 @@ pub(crate) fn longest(ranges: &[FreeRange]) -> Option<FreeRange>
     ranges.iter().copied().reduce(|best, range| if is_longer(range, best) { range } else { best })
 }
 
-// The last range that begins before block n.
-pub(crate) fn before(ranges: &Table<FreeRange>, n: u32) -> Option<FreeRange>
-    ensures value { (m : ℕ) → Regular m ranges.now → result ≡ last_before (records ranges.now) n }
+// The last range that begins at or before block n.
+pub(crate) fn last_up_to(ranges: &Table<FreeRange>, n: u32) -> Option<FreeRange>
+    ensures value { (m : ℕ) → Regular m ranges.now → n < m → result ≡ last_before (records ranges.now) (n + 1) }
 {
-    let at = ranges.rank(FirstBlock(n)).checked_sub(1)?;
+    let next = n.saturating_add(1);
+    let at = ranges.rank(FirstBlock(next)).checked_sub(1)?;
     Some(ranges.records()[at])
 }
 
@@ -64,7 +65,7 @@ fn cut_after(ranges: &mut Table<FreeRange>, n: u32) -> u32
 
 // Puts block n, which is owned, back among the free ones, where no range ends right before it.
 fn put_first(ranges: &mut Table<FreeRange>, n: u32)
-    ensures after { (m : ℕ) → Regular m ranges.old → held m (records ranges.old) n ≡ true → Reaches (records ranges.old) n 0 → Gave m ranges.old n ranges.new }
+    ensures after { GivesBack ranges.old n 0 ranges.new }
 {
     let next = n.saturating_add(1);
     let right = length_of(ranges.get(FirstBlock(next)));
@@ -73,7 +74,7 @@ fn put_first(ranges: &mut Table<FreeRange>, n: u32)
 
 // Puts block n, which is owned, back among the free ones. `left` is the length of the range that ends right before it.
 pub(crate) fn put_back(ranges: &mut Table<FreeRange>, left: u32, n: u32)
-    ensures after { (m : ℕ) → Regular m ranges.old → held m (records ranges.old) n ≡ true → Reaches (records ranges.old) n left → Gave m ranges.old n ranges.new }
+    ensures after { GivesBack ranges.old n left ranges.new }
 {
     if left == 0 {
         put_first(ranges, n);

@@ -20,6 +20,7 @@ pub use range_map::RangeMap;
 
 // Ranges that stand apart are the maximal runs of the blocks that they leave free, and there are at most half as many
 // as blocks, rounded up.
+#[tactic(auto, using(crate::proofs::Runs::ranges_are_runs))]
 pub fn ranges_are_runs()
     ensures { RangesAreRuns }
 {}

@@ -3,7 +3,7 @@ ghost use Rattle.std.specs.Prelude.{◌≡◌, ℕ, false, length};
 ghost use Rattle.blocks.specs.Meanings.{Taking};
 ghost use Rattle.ranges.specs.Maps.{map_of, Makes, Sound, TakesLongest};
 
-use crate::free::{before, longest, put, put_back, take_first};
+use crate::free::{last_up_to, longest, put, put_back, take_first};
 use crate::range::{is_out, left_of};
 use blocks::{BlockAllocator, NotOwned, check_size};
 use faults::MemoryCause;
@@ -60,8 +60,9 @@ impl BlockAllocator for RangeMap<'_> {
         self.spare
     }
 
+    #[tactic(auto, using(crate::proofs::Maps::looked))]
     fn is_owned(&self, n: u32) -> bool {
-        is_out(self.size, before(&self.ranges, n.saturating_add(1)), n)
+        is_out(self.size, last_up_to(&self.ranges, n), n)
     }
 
     // The first block of the longest range, the lowest among equals.
@@ -77,7 +78,7 @@ impl BlockAllocator for RangeMap<'_> {
     }
 
     fn give(&mut self, n: u32) -> Result<(), NotOwned> {
-        let range = before(&self.ranges, n.saturating_add(1));
+        let range = last_up_to(&self.ranges, n);
         if !is_out(self.size, range, n) {
             return Err(NotOwned);
         }

@@ -1,8 +1,8 @@
-use Rattle.std.proofs.Common.{◌≡◌, ◌+◌, true, sym, refl, ap, ◌∙◌, subst, arith}
+use Rattle.std.proofs.Common.{◌≡◌, true, sym, refl, ◌∙◌, subst, arith}
 use Rattle.ordered.specs.Lent.{records}
 use Rattle.blocks.proofs.Changes.{free_more}
 use Rattle.ranges.specs.Maps.{map_of, Sound}
-use Rattle.ranges.specs.Ranges.{last_before, Reaches}
+use Rattle.ranges.specs.Ranges.{Reaches}
 use Rattle.ranges.specs.Steps.{Gave}
 use Rattle.ranges.specs.declared.range_map.RangeMap.{RangeMap}
 use Rattle.ranges.proofs.Lasts.{reaches}
@@ -11,9 +11,12 @@ use Rattle.ranges.proofs.Steps.{owned_parts}
 use Rattle.ranges.proofs.range_map.RangeMapBlockAllocator.give.Goals as goal
 
 pub returns-then-not-is_out : goal.returns-then-not-is_out
-returns-then-not-is_out c =
-    let answer = looked c.args.self.now c.args.n c.saturating_add.result c.before-range.result c.is_out.result (λ lt. omega arith) c.before-range.ensures.value c.is_out.ensures.value in
-    record { gives = λ s. (sym (answer s) ∙ c.if-not-is_out.true, record { size = refl; owns = λ k. refl }); sound = λ s. s }
+returns-then-not-is_out c = let m = c.args.self.now in record {
+  gives = λ s.
+      let answer = looked m c.args.n c.last_up_to-range.result s (c.last_up_to-range.ensures.value m.size s.regular) in
+      (sym answer ∙ sym c.is_out.ensures.value ∙ c.if-not-is_out.true, record { size = refl; owns = λ k. refl });
+  sound = λ s. s;
+}
 
 pub returns : goal.returns
 returns c =
@@ -22,13 +25,11 @@ returns c =
     let xs = records m.ranges in
     let u = c.put_back.new.ranges in
     let w : RangeMap = record { ranges = u; size = m.size; spare = c.saturating_add-self.result } in
-    let answer = looked m n c.saturating_add.result c.before-range.result c.is_out.result (λ lt. omega arith) c.before-range.ensures.value c.is_out.ensures.value in
     let gave : Sound m → Gave m.size m.ranges n u = λ s.
-    let owned : (map_of m).owns n ≡ true = sym (answer s) ∙ c.if-not-is_out.false in
+    let last = c.last_up_to-range.ensures.value m.size s.regular in
+    let owned : (map_of m).owns n ≡ true = sym (looked m n c.last_up_to-range.result s last) ∙ sym c.is_out.ensures.value ∙ c.if-not-is_out.false in
     let out = owned_parts m.size n xs owned in
-    let next : c.saturating_add.result ≡ n + 1 = omega (arith, s.regular.few, out.0) in
-    let left = subst (Reaches xs n) (sym c.left_of.ensures.value)
-    (reaches m.size n xs s.regular.maximal out.1 c.before-range.result (ap (last_before xs) (sym next) ∙ sym (c.before-range.ensures.value m.size s.regular))) in
+    let left = subst (Reaches xs n) (sym c.left_of.ensures.value) (reaches m.size n xs s.regular.maximal out.1 c.last_up_to-range.result (sym (last out.0))) in
     c.put_back.ensures.after m.size s.regular owned left in
     record {
       gives = λ s. (refl, (gave s).owned);
