@@ -1,15 +1,16 @@
 -- A range map's answers, from its ranges. Assumes nothing.
-use Rattle.std.proofs.Common.{◌≡◌, ℕ, ◌+◌, ◌<◌, ◌≤◌, Bool, true, false, not, ◌&&◌, ltb, ◌⊎◌, List, [], ◌∷◌, length, Option, sym, refl, ap, ◌∙◌, inl, inr, ⊎_elim, arith}
+use Rattle.std.proofs.Common.{◌≡◌, ℕ, ◌+◌, ◌-◌, ◌^◌, min, ◌<◌, ◌≤◌, Bool, true, false, not, ◌&&◌, ltb, ◌⊎◌, List, [], ◌∷◌, length, Option, sym, refl, ap, ◌∙◌, inl, inr, ⊎_elim, arith}
 use Rattle.std.proofs.lemmas.Bool.{cases_Bool, cases_lt, and_from, and_left, and_right, or_left, le-ltb, lt-ltb, ltb-true}
 use Rattle.std.proofs.lemmas.Bool.Decides.{nat_tests}
 use Rattle.ordered.specs.Lent.{records, room}
 use Rattle.ordered.specs.declared.tables.Table.{Table}
 use Rattle.records.specs.declared.ranges.FreeRange.{FreeRange}
 use Rattle.blocks.specs.Sets.{count}
+use Rattle.blocks.proofs.Changes.{free_less, free_more}
 use Rattle.blocks.proofs.Counts.{count_empty, count_full}
 use Rattle.ranges.specs.Maps.{map_of, Sound}
 use Rattle.ranges.specs.Ranges.{within, in_some, apart, held, without, last_before, has, Suits}
-use Rattle.ranges.specs.Steps.{Regular, Fitting, Put}
+use Rattle.ranges.specs.Steps.{Regular, Fitting, Put, Took, Gave}
 use Rattle.ranges.specs.declared.range_map.RangeMap.{RangeMap}
 use Rattle.ranges.proofs.Lasts.{last_in}
 
@@ -49,3 +50,16 @@ module _ (n : ℕ) (t u : Table FreeRange) (empty : records t ≡ []) (suits : S
 
     pub new_sound : Sound (record { ranges = u; size = n; spare = n })
     new_sound = record { regular = put.regular; counted = (let z : count (held n (records u)) n ≡ 0 = count_empty (held n (records u)) n (λ k lt. owns_none k) in omega arith) }
+
+-- a block taken, and one given back
+pub took_sound : (m : RangeMap) (b : ℕ) (u : Table FreeRange) (left : ℕ) → Sound m → Took m.size m.ranges b u → left ≡ m.spare - 1 → Sound (record { ranges = u; size = m.size; spare = left })
+took_sound m b u left s took e = record {
+  regular = took.regular;
+  counted = omega (arith, free_less (map_of m) (map_of (record { ranges = u; size = m.size; spare = left })) b (refl, took.owned), s.counted);
+}
+
+pub gave_sound : (m : RangeMap) (b : ℕ) (u : Table FreeRange) (left : ℕ) → Sound m → Gave m.size m.ranges b u → left ≡ min (m.spare + 1) (2 ^ 32 - 1) → Sound (record { ranges = u; size = m.size; spare = left })
+gave_sound m b u left s gave e = record {
+  regular = gave.regular;
+  counted = omega (arith, free_more (map_of m) (map_of (record { ranges = u; size = m.size; spare = left })) b (refl, gave.owned), s.regular.few, s.counted);
+}

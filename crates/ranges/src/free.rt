@@ -16,6 +16,7 @@ pub(crate) fn longest(ranges: &[FreeRange]) -> Option<FreeRange>
 }
 
 // The last range that begins at or before block n.
+#[tactic(auto, using(crate::proofs::Lasts::last_none, crate::proofs::Lasts::last_some, crate::proofs::Steps::in_order))]
 pub(crate) fn last_up_to(ranges: &Table<FreeRange>, n: u32) -> Option<FreeRange>
     ensures value { (m : ℕ) → Regular m ranges.now → n < m → result ≡ last_before (records ranges.now) (n + 1) }
 {

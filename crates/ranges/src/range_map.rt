@@ -66,6 +66,7 @@ impl BlockAllocator for RangeMap<'_> {
     }
 
     // The first block of the longest range, the lowest among equals.
+    #[tactic(auto, using(crate::proofs::Maps::all_held, crate::proofs::Lasts::found_longest, crate::proofs::Runs::longest_run, crate::proofs::Maps::took_sound))]
     fn take(&mut self) -> Result<u32, MemoryCause>
         ensures takes { Sound self.old → Taking (map_of self.old) (map_of self.new) result }
         ensures sound { Sound self.old → Sound self.new }
@@ -77,6 +78,7 @@ impl BlockAllocator for RangeMap<'_> {
         Ok(range.first)
     }
 
+    #[tactic(auto, using(crate::proofs::Maps::looked, crate::proofs::Lasts::reaches, crate::proofs::Steps::owned_parts, crate::proofs::Maps::gave_sound))]
     fn give(&mut self, n: u32) -> Result<(), NotOwned> {
         let range = last_up_to(&self.ranges, n);
         if !is_out(self.size, range, n) {
