@@ -2,14 +2,16 @@
 use Rattle.std.proofs.Common.{◌≡◌, ℕ, zero, suc, ◌+◌, ◌-◌, ◌<◌, ◌≤◌, Bool, true, false, ◌||◌, ltb, ◌⊎◌, List, [], ◌∷◌, length, get_or, Some, None, Option, sym, refl, ap, ◌∙◌, subst, inl, inr, arith}
 use Rattle.std.proofs.lemmas.Bool.{cases_Bool, cases_eq, cond-true, cond-false, or_from, ltb-true, le-ltb, eq-eqb, ne_eqb}
 use Rattle.std.proofs.lemmas.Bool.Decides.{nat_tests}
+use Rattle.std.proofs.lemmas.Option.{none-some}
+use Rattle.std.proofs.Math.Bool.{or-false}
 use Rattle.records.specs.declared.ranges.FreeRange.{FreeRange}
 use Rattle.ranges.specs.Ranges.{within, in_some, apart, range_at, or_else, last_before, has, reach, Reaches, Longest}
 use Rattle.ranges.proofs.Apart.{Parts, parts, below_none, within_below, within_above, above_at}
-use Rattle.ranges.proofs.Laws.{cases_option, none_some, rank_at, same_is, same_not, removes}
+use Rattle.ranges.proofs.Laws.{cases_option, rank_at, same_is, same_not, removes}
 
 -- it is one of the ranges, and begins before k
 pub last_is : (lo n k : ℕ) (xs : List FreeRange) (r : FreeRange) → apart lo n xs ≡ true → last_before xs k ≡ Some r → (range_at xs r.first ≡ Some r) × (r.first < k)
-last_is lo n k [] r e h = absurd (none_some r h)
+last_is lo n k [] r e h = absurd (none-some r h)
 last_is lo n k (x ∷ xs) r e h = go (last_is (x.first + x.length + 1) n k xs r p.rest) (cases_Bool (ltb x.first k)) (cases_option (last_before xs k))
   where
     p : Parts lo n x xs
@@ -26,7 +28,7 @@ last_is lo n k (x ∷ xs) r e h = go (last_is (x.first + x.length + 1) n k xs r 
         let i = later (some ∙ w) in
         let o = removes (x.first + x.length + 1) n r.first xs r p.rest i.0 in
         (cond-false _ _ _ (same_not x r.first (omega (arith, o.low))) ∙ i.0, i.1)
-    go later (inr past) _ = absurd (none_some r (sym (cond-false _ _ _ past) ∙ h))
+    go later (inr past) _ = absurd (none-some r (sym (cond-false _ _ _ past) ∙ h))
 
 -- the range begins at or before block j
 abbrev From : Option FreeRange → ℕ → Type 0
@@ -42,15 +44,11 @@ last_tells lo n k j (x ∷ xs) e lt o q f =
     p : Parts lo n x xs
     p = parts lo n x xs e
 
-    or_false : (b : Bool) → (b || false) ≡ b
-    or_false true = refl
-    or_false false = refl
-
     go : ((o : Option FreeRange) → last_before xs k ≡ o → From o j → in_some xs j ≡ has o j) → (ltb x.first k ≡ true) ⊎ (ltb x.first k ≡ false)
         → (last_before xs k ≡ None) ⊎ ((y : FreeRange) × (last_before xs k ≡ Some y)) → in_some (x ∷ xs) j ≡ has o j
     go later (inl t) (inl none) =
         let w : Some x ≡ o = sym (cond-true _ _ _ t ∙ ap (λ o. or_else o x) none) ∙ q in
-        ap (λ (b : Bool). within x j || b) (later None none tt) ∙ or_false (within x j) ∙ ap (λ o. has o j) w
+        ap (λ (b : Bool). within x j || b) (later None none tt) ∙ or-false (within x j) ∙ ap (λ o. has o j) w
     go later (inl t) (inr (y, some)) =
         let w : Some y ≡ o = sym (cond-true _ _ _ t ∙ ap (λ o. or_else o x) some) ∙ q in
         let g : y.first ≤ j = subst (λ o. From o j) (sym w) f in

@@ -3,6 +3,7 @@ use Rattle.std.proofs.Common.{◌≡◌, ℕ, zero, suc, ◌+◌, ◌-◌, ◌<�
 use Rattle.std.specs.Option.{option_map}
 use Rattle.std.proofs.lemmas.Bool.{both_ways, cases_Bool, cases_lt, cond-true, cond-false, or_parts, or_from, ltb-true, lt-ltb, le-ltb}
 use Rattle.std.proofs.lemmas.Bool.Decides.{nat_tests}
+use Rattle.std.proofs.lemmas.Option.{none-some}
 use Rattle.ordered.specs.Tables.{same, index_of, rank_of, with_record, replaced}
 use Rattle.records.specs.Keys.{first_of, first_below}
 use Rattle.records.specs.declared.ranges.FreeRange.{FreeRange}
@@ -18,9 +19,6 @@ or_swap false b c = refl
 pub cases_option : {X : Type 0} (o : Option X) → (o ≡ None) ⊎ ((x : X) × (o ≡ Some x))
 cases_option None = inl refl
 cases_option (Some x) = inr (x, refl)
-
-pub none_some : {X : Type 0} (x : X) → None ≡ Some x → ⊥
-none_some x e = let z : ◌≡◌ {A = ℕ} 0 1 = cc in omega arith
 
 -- how the table finds a range by its first block, and puts one in
 abbrev pub begins_at : FreeRange → ℕ → Bool
@@ -80,7 +78,7 @@ out_later lo n k x xs ys r p o = record {
 }
 
 pub removes : (lo n k : ℕ) (xs : List FreeRange) (r : FreeRange) → apart lo n xs ≡ true → range_at xs k ≡ Some r → Out lo n k xs (without xs k) r
-removes lo n k [] r e h = absurd (none_some r h)
+removes lo n k [] r e h = absurd (none-some r h)
 removes lo n k (x ∷ xs) r e h = go (removes (x.first + x.length + 1) n k xs r p.rest) (cases_Bool (begins_at x k))
   where
     p : Parts lo n x xs
@@ -102,7 +100,7 @@ removes_none k (x ∷ xs) h = go (removes_none k xs) (cases_Bool (begins_at x k)
   where
     go : (range_at xs k ≡ None → without xs k ≡ xs)
         → (begins_at x k ≡ true) ⊎ (begins_at x k ≡ false) → without (x ∷ xs) k ≡ x ∷ xs
-    go later (inl here) = absurd (none_some x (sym h ∙ cond-true _ _ _ here))
+    go later (inl here) = absurd (none-some x (sym h ∙ cond-true _ _ _ here))
     go later (inr past) = cond-false _ _ _ past ∙ ap (λ (l : List FreeRange). x ∷ l) (later (sym (cond-false _ _ _ past) ∙ h))
 
 -- no range begins at k, and the block before k lies in none
@@ -117,7 +115,7 @@ begins lo n k (x ∷ xs) e out h =
 
     go : (range_at xs k ≡ None → in_some xs k ≡ false)
         → (begins_at x k ≡ true) ⊎ (begins_at x k ≡ false) → in_some (x ∷ xs) k ≡ false
-    go later (inl here) = absurd (none_some x (sym h ∙ cond-true _ _ _ here))
+    go later (inl here) = absurd (none-some x (sym h ∙ cond-true _ _ _ here))
     go later (inr past) = or_from _ _ (not_here k past (λ j q. (or_parts (within x j) (in_some xs j) (out j q)).0)) (later (sym (cond-false _ _ _ past) ∙ h))
 
 -- a range put among ranges that it stands clear of
@@ -193,7 +191,7 @@ absent lo n k (x ∷ xs) e out =
 -- a range in the place of another is the same as that one taken out and it put in
 pub swapped : (lo n : ℕ) (xs : List FreeRange) (old r : FreeRange) → apart lo n xs ≡ true → range_at xs r.first ≡ Some old
     → over_range xs r ≡ with_range (without xs r.first) r
-swapped lo n [] old r e h = absurd (none_some old h)
+swapped lo n [] old r e h = absurd (none-some old h)
 swapped lo n (x ∷ xs) old r e h = go (swapped (x.first + x.length + 1) n xs old r p.rest) (cases_Bool (begins_at x r.first))
   where
     p : Parts lo n x xs

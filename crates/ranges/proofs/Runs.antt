@@ -2,11 +2,12 @@
 use Rattle.std.proofs.Common.{◌≡◌, ℕ, suc, ◌+◌, ◌-◌, ◌<◌, ◌≤◌, Bool, true, false, not, ◌&&◌, ltb, ◌⊎◌, List, [], ◌∷◌, length, get_or, Some, None, Option, sym, refl, ap, ◌∙◌, inl, inr, arith}
 use Rattle.std.proofs.lemmas.Bool.{both_ways, cases_Bool, cases_order, cond-true, cond-false, not-false, or_from, or_left, and_right, and_from, lt-ltb, ltb-true}
 use Rattle.std.proofs.lemmas.Bool.Decides.{nat_tests}
+use Rattle.std.proofs.lemmas.Option.{none-some}
 use Rattle.records.specs.declared.ranges.FreeRange.{FreeRange}
 use Rattle.ranges.specs.Ranges.{within, in_some, apart, held, range_at, last_before, has, Longest}
 use Rattle.ranges.specs.Runs.{Run, FirstOfLongest, RangesAreRuns}
 use Rattle.ranges.proofs.Apart.{at_most_half, rises}
-use Rattle.ranges.proofs.Laws.{Out, begins_at, removes, none_some}
+use Rattle.ranges.proofs.Laws.{Out, begins_at, removes}
 use Rattle.ranges.proofs.Lasts.{last_is, last_in, at_place, found_longest}
 
 is_free : (n : ℕ) (rs : List FreeRange) (k : ℕ) → in_some rs k ≡ true → held n rs k ≡ false
@@ -42,7 +43,7 @@ run_same s n a b f l p q le lt = (first, last (cases_order (a + b) (f + l)))
     last (inr (inr h)) = absurd (both_ways (s (f + l)) (p.free (f + l) (omega arith) (omega arith)) (q.after (omega (arith, p.high))))
 
 place_of : (k : ℕ) (xs : List FreeRange) (r : FreeRange) → range_at xs k ≡ Some r → (i : ℕ) × (i < length xs) × ((d : FreeRange) → get_or xs i d ≡ r)
-place_of k [] r h = absurd (none_some r h)
+place_of k [] r h = absurd (none-some r h)
 place_of k (x ∷ xs) r h = go (place_of k xs r) (cases_Bool (begins_at x k))
   where
     go : (range_at xs k ≡ Some r → (i : ℕ) × (i < length xs) × ((d : FreeRange) → get_or xs i d ≡ r)) → (begins_at x k ≡ true) ⊎ (begins_at x k ≡ false)
