@@ -1,6 +1,7 @@
 // Block allocators. An allocator means a size and a set of owned blocks, each below the size. It takes a free block,
 // gives an owned one back, and refuses to take just where it owns as many blocks as its size. Here are the trait that
-// says so, how blocks are counted, and the bitmap, which keeps one bit a block in bytes that the caller lends.
+// says so, the sizes that an allocator can have, how blocks are counted, and the bitmap, which keeps one bit a block in
+// bytes that the caller lends.
 //
 // Proved once, of all sets: how a count goes with its set. Of every allocator: a take raises the number of owned blocks
 // by one, and its block is below the size; a give lowers that number by one. Of the bitmap: it is such an allocator; a

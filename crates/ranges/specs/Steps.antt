@@ -8,7 +8,7 @@
 --     CutAfter n t b u l     the table u is t without the range that begins right after block b, of l blocks or none
 --     Took n t b u           the table u is t with block b taken
 --     Gave n t b u           the table u is t with block b given back
---     GivesBack t b l u      where t holds maximal ranges, b is owned and l blocks right before it are free, u is t with b given back
+--     PutsBack t b l u       where t holds maximal ranges, b is owned and l blocks right before it are free, u is t with b given back
 use Rattle.std.specs.Prelude.{◌≡◌, ℕ, ◌+◌, ◌/◌, ◌<◌, ◌≤◌, true, false, ◌||◌, List}
 use Rattle.blocks.specs.Sets.{Joins}
 use Rattle.blocks.specs.Sizes.{most}
@@ -67,5 +67,5 @@ pub record Gave (n : ℕ) (t : Table FreeRange) (b : ℕ) (u : Table FreeRange) 
   pub owned : Joins (held n (records u)) b (held n (records t))
 
 -- of whatever size the ranges are
-abbrev pub GivesBack : Table FreeRange → ℕ → ℕ → Table FreeRange → Type 0
-GivesBack t b l u = (n : ℕ) → Regular n t → held n (records t) b ≡ true → Reaches (records t) b l → Gave n t b u
+abbrev pub PutsBack : Table FreeRange → ℕ → ℕ → Table FreeRange → Type 0
+PutsBack t b l u = (n : ℕ) → Regular n t → held n (records t) b ≡ true → Reaches (records t) b l → Gave n t b u

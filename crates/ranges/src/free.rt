@@ -1,8 +1,10 @@
-// The steps of a take and a give on the table of free ranges.
+// The steps of a take and a give on the table of free ranges. That the ranges are maximal is a premise of each clause,
+// since lent memory may hold anything. They are functions, as `Table` is another crate's: a type around it would put one
+// more field into every clause.
 ghost use Rattle.std.specs.Prelude.{◌≡◌, ℕ, ◌+◌, ◌<◌, true, length, Some, MatchOption};
 ghost use Rattle.ordered.specs.Lent.{records};
 ghost use Rattle.ranges.specs.Ranges.{held, range_at, without, last_before, Longest};
-ghost use Rattle.ranges.specs.Steps.{Regular, Fitting, Put, Changed, CutAfter, Took, GivesBack};
+ghost use Rattle.ranges.specs.Steps.{Regular, Fitting, Put, Changed, CutAfter, Took, PutsBack};
 
 use crate::range::{is_longer, join, length_of, rest};
 use ordered::tables::Table;
@@ -66,21 +68,22 @@ fn cut_after(ranges: &mut Table<FreeRange>, n: u32) -> u32
 
 // Puts block n, which is owned, back among the free ones, where no range ends right before it.
 fn put_first(ranges: &mut Table<FreeRange>, n: u32)
-    ensures after { GivesBack ranges.old n 0 ranges.new }
+    ensures after { PutsBack ranges.old n 0 ranges.new }
 {
     let next = n.saturating_add(1);
     let right = length_of(ranges.get(FirstBlock(next)));
     change(ranges, next, join(0, n, right));
 }
 
-// Puts block n, which is owned, back among the free ones. `left` is the length of the range that ends right before it.
+// Puts block n, which is owned, back among the free ones. `left` is the length of the range that ends right before it,
+// or 0 where none does.
 pub(crate) fn put_back(ranges: &mut Table<FreeRange>, left: u32, n: u32)
-    ensures after { GivesBack ranges.old n left ranges.new }
+    ensures after { PutsBack ranges.old n left ranges.new }
 {
     if left == 0 {
         put_first(ranges, n);
-        return;
+    } else {
+        let right = cut_after(ranges, n);
+        put(ranges, join(left, n, right));
     }
-    let right = cut_after(ranges, n);
-    put(ranges, join(left, n, right));
 }

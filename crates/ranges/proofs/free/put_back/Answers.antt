@@ -6,8 +6,8 @@ use Rattle.ranges.specs.Steps.{Fitting, Put}
 use Rattle.ranges.proofs.Steps.{owned_parts, merged_fits, gives}
 use Rattle.ranges.proofs.free.put_back.Goals as goal
 
-pub returns : goal.returns
-returns c = record {
+pub returns-else-left-eq0 : goal.returns-else-left-eq0
+returns-else-left-eq0 c = record {
   after = λ m s owned left.
       let t = c.args.ranges.now in
       let u = c.cut_after-right.new.ranges in
