@@ -9,10 +9,11 @@ use Rattle.blocks.specs.Sets.{count}
 use Rattle.blocks.proofs.Changes.{free_less, free_more}
 use Rattle.blocks.proofs.Counts.{count_empty, count_full}
 use Rattle.ranges.specs.Maps.{map_of, Sound}
-use Rattle.ranges.specs.Ranges.{within, in_some, apart, held, without, last_before, has, Suits}
-use Rattle.ranges.specs.Steps.{Regular, Fitting, Put, Took, Gave}
+use Rattle.ranges.specs.Ranges.{within, in_some, apart, held, without, last_before, has, reach, Suits}
+use Rattle.ranges.specs.Steps.{Regular, Fitting, Put, Took, Gave, PutsBack}
 use Rattle.ranges.specs.declared.range_map.RangeMap.{RangeMap}
-use Rattle.ranges.proofs.Lasts.{last_in}
+use Rattle.ranges.proofs.Lasts.{last_in, reaches}
+use Rattle.ranges.proofs.Steps.{owned_parts}
 
 -- by o, the last range that begins at or before block k
 pub looked : (m : RangeMap) (k : ℕ) (o : Option FreeRange) → Sound m → (k < m.size → o ≡ last_before (records m.ranges) (k + 1)) → (ltb k m.size && not (has o k)) ≡ (map_of m).owns k
@@ -57,6 +58,13 @@ took_sound m b u left s took e = record {
   regular = took.regular;
   counted = omega (arith, free_less (map_of m) (map_of (record { ranges = u; size = m.size; spare = left })) b (refl, took.owned), s.counted);
 }
+
+pub gave : (m : RangeMap) (b : ℕ) (o : Option FreeRange) (u : Table FreeRange) → Sound m → (b < m.size → o ≡ last_before (records m.ranges) (b + 1)) → (ltb b m.size && not (has o b)) ≡ true
+    → PutsBack m.ranges b (reach o b) u → Gave m.size m.ranges b u
+gave m b o u s last out back =
+    let owned : (map_of m).owns b ≡ true = sym (looked m b o s last) ∙ out in
+    let parts = owned_parts m.size b (records m.ranges) owned in
+    back m.size s.regular owned (reaches m.size b (records m.ranges) s.regular.maximal parts.1 o (sym (last parts.0)))
 
 pub gave_sound : (m : RangeMap) (b : ℕ) (u : Table FreeRange) (left : ℕ) → Sound m → Gave m.size m.ranges b u → left ≡ min (m.spare + 1) (2 ^ 32 - 1) → Sound (record { ranges = u; size = m.size; spare = left })
 gave_sound m b u left s gave e = record {

@@ -78,7 +78,7 @@ impl BlockAllocator for RangeMap<'_> {
         Ok(range.first)
     }
 
-    #[tactic(auto, using(crate::proofs::Maps::looked, crate::proofs::Lasts::reaches, crate::proofs::Steps::owned_parts, crate::proofs::Maps::gave_sound))]
+    #[tactic(auto, using(crate::proofs::Maps::looked, crate::proofs::Maps::gave, crate::proofs::Maps::gave_sound))]
     fn give(&mut self, n: u32) -> Result<(), NotOwned> {
         let range = last_up_to(&self.ranges, n);
         if !is_out(self.size, range, n) {
