@@ -1,8 +1,7 @@
 // A bitmap of owned blocks in bytes that the caller lends, one bit a block. Any bytes and any fields are accepted: a
 // call on them ends and stays inside.
-ghost use Rattle.std.specs.Prelude.{◌≡◌, ℕ, ◌<◌, false, MatchOption, MatchResult};
-ghost use Rattle.faults.specs.declared.MemoryCause.TheVariants.{BadShape};
-ghost use Rattle.blocks.specs.Bitmaps.{Makes, Suits, needed, mapped, Sound, Next, Spent, past, TakesNext, GivesBack};
+ghost use Rattle.std.specs.Prelude.{◌≡◌, ℕ, ◌<◌, false, MatchOption};
+ghost use Rattle.blocks.specs.Bitmaps.{Makes, needed, mapped, Sound, Next, Spent, past, TakesNext, GivesBack};
 ghost use Rattle.blocks.specs.Meanings.{Taking, Giving};
 
 use crate::{BlockAllocator, NotOwned, bits, check_size};
