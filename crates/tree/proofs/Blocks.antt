@@ -1,7 +1,8 @@
 -- Bytes of blocks, and the pointers in them.
-use Rattle.std.proofs.Common.{◌≡◌, ℕ, ◌+◌, ◌-◌, ◌*◌, ◌<◌, ◌≤◌, eqb, ◌⊎◌, List, ◌++◌, length, take, drop, replicate, Some, None, Option, sym, ap, ◌∙◌, subst, ap₂, inl, inr, arith, length-drop, length-take, rules, eq-eqb, ne_eqb}
+use Rattle.std.proofs.Common.{◌≡◌, ℕ, Bool, true, false, refl, ◌+◌, ◌-◌, ◌*◌, ◌<◌, ◌≤◌, eqb, ◌⊎◌, List, ◌++◌, length, take, drop, replicate, Some, None, Option, sym, ap, ◌∙◌, subst, ap₂, inl, inr, arith, length-drop, length-take, rules, eq-eqb, ne_eqb}
 use borrow.Rule.Slice.PartMut.{put_mid, Post-is}
-use Rattle.std.proofs.lemmas.List.{places, drop-replicate}
+use Rattle.std.specs.Bool.{then_some}
+use Rattle.std.proofs.lemmas.List.{places, drop-replicate, take_all}
 use Rattle.std.proofs.lemmas.Slice.{between_is, take-put_mid_below, drop-put_mid, between-put_mid}
 use Rattle.std.proofs.lemmas.Bool.{cond-true, cond-false, cases_lt}
 use Rattle.records.specs.declared.rows.Pointer.{Pointer}
@@ -12,18 +13,16 @@ use Rattle.tree.specs.Steps.{Put}
 abbrev pointed : ℕ → ℕ → Option Pointer
 pointed b t = Some (record { block = b; birth = t })
 
-pub pointer_hole : (part : List ℕ) (k b t : ℕ) → b ≡ word_at part (8 * k) → t ≡ word_at part (8 * k + 4)
-    → b ≡ 0 → t ≡ 0 → None ≡ pointer_in part k
+-- a pointer from its two words, where two zeros are a hole
+pub pointer_told : (part : List ℕ) (k b t : ℕ) (test : Bool) → b ≡ word_at part (8 * k) → t ≡ word_at part (8 * k + 4)
+    → (test ≡ true → b + t ≡ 0 → ⊥) → (test ≡ false → b + t ≡ 0) → then_some test (record { block = b; birth = t }) ≡ pointer_in part k
 unfolding pointer_in
-pointer_hole part k b t eb et zb zt =
-    sym (cond-true (eqb (word_at part (8 * k) + word_at part (8 * k + 4)) 0) None _ (eq-eqb _ 0 (omega arith)))
-
-pub pointer_some : (part : List ℕ) (k b t : ℕ) → b ≡ word_at part (8 * k) → t ≡ word_at part (8 * k + 4)
-    → (b + t ≡ 0 → ⊥) → Some (record { block = b; birth = t }) ≡ pointer_in part k
-unfolding pointer_in
-pointer_some part k b t eb et ne =
+pointer_told part k b t true eb et some hole =
     ap₂ (λ (x y : ℕ). pointed x y) eb et
-    ∙ sym (cond-false (eqb (word_at part (8 * k) + word_at part (8 * k + 4)) 0) None _ (ne_eqb _ 0 (λ z. ne (omega arith))))
+    ∙ sym (cond-false (eqb (word_at part (8 * k) + word_at part (8 * k + 4)) 0) None _ (ne_eqb _ 0 (λ z. some refl (omega arith))))
+pointer_told part k b t false eb et some hole =
+    let none = hole refl in
+    sym (cond-true (eqb (word_at part (8 * k) + word_at part (8 * k + 4)) 0) None _ (eq-eqb _ 0 (omega arith)))
 
 -- a pointer's bytes in the place of eight others
 pub pointer_put : (part ys : List ℕ) (k : ℕ) (q : Option Pointer) → ys ≡ pointer_bytes q
@@ -62,8 +61,9 @@ block_put mem ys bytes n start k at e fits size same =
     subst (λ (z : List ℕ). Put mem (put_mid start k mem ys) n z) same
     (subst (λ (s : ℕ). Put mem (put_mid s k mem ys) n ys) (sym at) (ys_put mem ys n k e (omega arith) (ap length same ∙ size)))
 
-pub block_read : (mem : List ℕ) (n start : ℕ) → start ≡ 64 * n → start + 64 ≤ length mem
-    → (take (start + 64 - start) (drop start mem) ≡ block mem n) × (length (take (start + 64 - start) (drop start mem)) ≡ 64)
-block_read mem n start at fits =
-    let width : start + 64 - start ≡ 64 = omega arith in
-    (ap₂ (λ (m s : ℕ). take m (drop s mem)) width at, simp (length-take, length-drop) (omega arith))
+pub block_read : (mem part : List ℕ) (n start : ℕ) → start ≡ 64 * n → start + 64 ≤ length mem
+    → part ≡ take 64 (take (length mem - start) (drop start mem)) → (part ≡ block mem n) × (length part ≡ 64)
+block_read mem part n start at fits e =
+    let rest : take (length mem - start) (drop start mem) ≡ drop start mem = take_all _ _ (simp length-drop (omega arith)) in
+    let is : part ≡ take 64 (drop start mem) = rw rest at e in
+    (is ∙ ap (λ (s : ℕ). take 64 (drop s mem)) at, ap length is ∙ simp (length-take, length-drop) (omega arith))

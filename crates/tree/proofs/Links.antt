@@ -1,10 +1,15 @@
 -- The blocks of a new path, one after the other.
-use Rattle.std.proofs.Common.{◌≡◌, ℕ, suc, ◌+◌, ◌<◌, ◌≤◌, ◌⊎◌, List, Some, None, Option, sym, refl, ap, ◌∙◌, subst, ap₂, inl, inr, add-one, arith}
+use Rattle.std.proofs.Common.{get_or, take, get_or-take, length-take, Bor, MatchOption, ◌≡◌, ℕ, suc, ◌+◌, ◌<◌, ◌≤◌, ◌⊎◌, List, length, Some, None, Option, sym, refl, ap, ◌∙◌, subst, ap₂, inl, inr, add-one, arith}
 use Rattle.std.proofs.lemmas.Bool.{cases_lt}
+use Rattle.std.specs.List.{HoldsAt}
+use Rattle.std.specs.Option.{IsSomeAnd}
 use Rattle.records.specs.declared.rows.Pointer.{Pointer}
 use Rattle.tree.specs.Trees.{block, index_at, digit, on_path, Reaches, Outside, Lost}
 use Rattle.tree.specs.Paths.{led, with_pointer, new_at, Fresh, Short, Rewritten}
 use Rattle.tree.specs.Steps.{LeadsOut, Put, Linked}
+use Rattle.tree.specs.declared.paths.FreshPath.{FreshPath}
+use Rattle.tree.specs.Calls.{taken, Spares}
+use Rattle.tree.proofs.Reroutes.{new_none, new_some}
 use Rattle.tree.proofs.Walks.{reached_any, out_lost}
 
 led_same : (mem mem' : List ℕ) (q : Option Pointer) → ((p : Pointer) → q ≡ Some p → block mem' p.block ≡ block mem p.block) → led mem' q ≡ led mem q
@@ -21,16 +26,19 @@ module _ (mem : List ℕ) (root : Option Pointer) (h p : ℕ) (f : ℕ → ℕ) 
       led_same mem mem' (on_path mem root h p d) (λ q e. l.others q.block
       (λ a b z. fresh.new a (omega arith) (subst (Reaches mem root h) (sym z) (reached_any mem root h d (index_at h p d) q (omega arith) e))))
 
-  pub linked_more : (mem' mem'' : List ℕ) (d j : ℕ) (old below : Option Pointer) → d < k → d < h → Linked mem mem' root h p f g k d
-      → old ≡ on_path mem root h p d → j ≡ digit h p d → below ≡ new_at f g k (d + 1)
-      → Put mem' mem'' (f d) (with_pointer (led mem' old) j below)
+  pub linked_more : (mem' mem'' : List ℕ) (d j n : ℕ) (old below : Option Pointer) → d < k → d < h → Linked mem mem' root h p f g k d
+      → old ≡ on_path mem root h p d → j ≡ digit h p d → below ≡ new_at f g k (d + 1) → n ≡ f d
+      → Put mem' mem'' n (with_pointer (led mem' old) j below)
       → Linked mem mem'' root h p f g k (d + 1)
-  linked_more mem' mem'' d j old below low deep l eo ej eb put = record {
+  linked_more mem' mem'' d j n old below low deep l eo ej eb en put' = record {
     len = put.len ∙ l.len;
     indirect = λ e el. step e el (cases_lt e d);
     others = λ b ne. put.off b (λ z. ne d (omega arith) (sym z)) ∙ l.others b (λ e el. ne e (omega arith));
   }
     where
+      put : Put mem' mem'' (f d) (with_pointer (led mem' old) j below)
+      put = subst (λ (m : ℕ). Put mem' mem'' m (with_pointer (led mem' old) j below)) en put'
+
       here : block mem'' (f d) ≡ with_pointer (led mem (on_path mem root h p d)) (digit h p d) (new_at f g k (suc d))
       here = put.here
           ∙ ap₂ (λ (x : List ℕ) (i : ℕ). with_pointer x i below) (ap (led mem') eo ∙ kept mem' d low deep l) ej
@@ -44,27 +52,50 @@ module _ (mem : List ℕ) (root : Option Pointer) (h p : ℕ) (f : ℕ → ℕ) 
           subst (λ (m : ℕ). block mem'' (f m) ≡ with_pointer (led mem (on_path mem root h p m)) (digit h p m) (new_at f g k (suc m))) z here
 
   -- a refusal on the way
-  pub linked_lost : (mem' : List ℕ) (d : ℕ) (old : Option Pointer) → d < k → d < h → Linked mem mem' root h p f g k d → old ≡ on_path mem root h p d
-      → LeadsOut mem' old ⊎ Outside mem' (f d) → Lost mem root h ⊎ Short mem f k
-  linked_lost mem' d old low deep l eo (inl a) =
+  pub linked_lost : (mem' : List ℕ) (d n : ℕ) (old : Option Pointer) → d < k → d < h → Linked mem mem' root h p f g k d → old ≡ on_path mem root h p d → n ≡ f d
+      → LeadsOut mem' old ⊎ Outside mem' n → Lost mem root h ⊎ Short mem f k
+  linked_lost mem' d n old low deep l eo en (inl a) =
       inl (out_lost mem root h d (index_at h p d) old (omega arith) eo (a.0, a.1, omega (arith, l.len, a.2)))
-  linked_lost mem' d old low deep l eo (inr o) = inr (d, low, omega (arith, l.len, o))
+  linked_lost mem' d n old low deep l eo en (inr o) = inr (d, low, omega (arith, l.len, o, en))
 
   -- all indirect blocks, and the data
-  pub with_data : (mem' mem'' last bytes text : List ℕ) (d : ℕ) → last ≡ mem'' → bytes ≡ text → d ≡ h → h < k → Linked mem mem' root h p f g k d
-      → Put mem' mem'' (f h) bytes → Rewritten mem last root h p f g k text
-  with_data mem' mem'' last bytes text d el et z high l put = subst (λ (m : List ℕ). Rewritten mem m root h p f g k text) (sym el) (record {
+  pub with_data : (mem' mem'' bytes text : List ℕ) (d n : ℕ) → bytes ≡ text → d ≡ h → h < k → n ≡ f h → Linked mem mem' root h p f g k d
+      → Put mem' mem'' n bytes → Rewritten mem mem'' root h p f g k text
+  with_data mem' mem'' bytes text d n et z high en l put = record {
     len = put.len ∙ l.len;
-    indirect = λ e low deep. put.off (f e) (fresh.apart e h deep high) ∙ l.indirect e (omega arith);
-    stored = λ _. put.here ∙ et;
-    others = λ b ne. put.off b (λ e. ne h high (sym e)) ∙ l.others b (λ e el. ne e (omega arith));
-  })
+    indirect = λ e low deep. put.off (f e) (λ z. fresh.apart e h deep high (z ∙ en)) ∙ l.indirect e (omega arith);
+    stored = λ _. ap (block mem'') (sym en) ∙ put.here ∙ et;
+    others = λ b ne. put.off b (λ z. ne h high (sym en ∙ sym z)) ∙ l.others b (λ e el. ne e (omega arith));
+  }
 
   -- all new blocks, where the data is a hole
-  pub without_data : (mem' last text : List ℕ) (d : ℕ) → last ≡ mem' → d ≡ k → k ≤ h → Linked mem mem' root h p f g k d → Rewritten mem last root h p f g k text
-  without_data mem' last text d el z low l = subst (λ (m : List ℕ). Rewritten mem m root h p f g k text) (sym el) (record {
+  pub without_data : (mem' text : List ℕ) (d : ℕ) → d ≡ k → k ≤ h → Linked mem mem' root h p f g k d → Rewritten mem mem' root h p f g k text
+  without_data mem' text d z low l = record {
     len = l.len;
     indirect = λ e low deep. l.indirect e (omega arith);
     stored = λ high. absurd (omega arith);
     others = λ b ne. l.others b (λ e el. ne e (omega arith));
-  })
+  }
+
+-- the pointer of a new path at a depth, by a look at its blocks
+pub pointer_new : (f : FreshPath) (d : ℕ) (o : Option (Bor ℕ)) (r : Option Pointer) (Q : Bor ℕ → Pointer → Type 0)
+    → MatchOption o (length f.blocks.now ≤ d) (λ x. (d < length f.blocks.now) × HoldsAt (λ y. x.now ≡ y) f.blocks.now d)
+    → MatchOption o (r ≡ None) (λ x. IsSomeAnd r (Q x)) → ((x : Bor ℕ) (p : Pointer) → Q x p → p ≡ record { block = x.now; birth = f.group })
+    → r ≡ new_at (taken f) f.group (length f.blocks.now) d
+pointer_new f d None r Q past e made = e ∙ sym (new_none (taken f) f.group (length f.blocks.now) d past)
+pointer_new f d (Some x) None Q found e made = absurd e
+pointer_new f d (Some x) (Some p) Q found e made =
+    ap (λ (q : Pointer). Some q) (made x p e) ∙ ap (λ (b : ℕ). Some (record { block = b; birth = f.group })) (found.1 0)
+    ∙ sym (new_some (taken f) f.group (length f.blocks.now) d found.0)
+
+-- the blocks of the new path, as far as m of them go
+pub taken_at : (f : FreshPath) (m d : ℕ) → d < length (take m f.blocks.now) → get_or (take m f.blocks.now) d 0 ≡ taken f d
+taken_at f m d low = get_or-take m f.blocks.now d 0 (omega (arith, length-take m f.blocks.now))
+
+-- one more block written is one of the new path
+pub spares_more : (mem mem' mem'' bytes : List ℕ) (f : FreshPath) (d n : ℕ) → Spares mem mem' f → d < length f.blocks.now → n ≡ taken f d
+    → Put mem' mem'' n bytes → Spares mem mem'' f
+spares_more mem mem' mem'' bytes f d n s low en put = record {
+  len = put.len ∙ s.len;
+  others = λ b ne. put.off b (λ z. ne d low (sym en ∙ sym z)) ∙ s.others b ne;
+}

@@ -1,30 +1,46 @@
 -- A survey of a path, one depth after the other.
-use Rattle.std.proofs.Common.{◌≡◌, ℕ, zero, suc, ◌+◌, ◌-◌, ◌<◌, ◌≤◌, Bool, true, false, ◌⊎◌, List, length, get_or, set, replicate, Some, None, Option, sym, refl, ap, ◌∙◌, subst, ap₂, ⊎_elim, add-one, arith, length-set, get_or-set_other, get_or-set_same}
-use Rattle.std.proofs.lemmas.Bool.{cases_eq, false≢true}
+use Rattle.std.proofs.Common.{zero-add, ◌≡◌, ℕ, zero, suc, ◌+◌, ◌-◌, ◌<◌, ◌≤◌, Bool, true, false, ◌⊎◌, List, length, get_or, set, replicate, Some, None, Option, sym, refl, ap, ◌∙◌, subst, ap₂, ⊎_elim, add-one, arith, length-set, get_or-set_other, get_or-set_same}
+use Rattle.std.proofs.lemmas.Bool.{cases_eq}
+use Rattle.std.specs.Bool.{MatchBool}
+use Rattle.std.specs.Option.{is_some}
+use Rattle.std.specs.List.{range_with_len, AllWithin, HoldsAt}
+use Rattle.std.proofs.lemmas.List.FromFn.{get_or-range_with_len}
 use Rattle.records.specs.declared.rows.Pointer.{Pointer}
-use Rattle.tree.specs.Trees.{block, pointer_in, child, at, digit, on_path}
-use Rattle.tree.specs.Paths.{OnlyChild, OtherChild, Surveyed}
-use Rattle.tree.specs.Steps.{HolesBeside, PointerBeside, Looked}
+use Rattle.tree.specs.Trees.{fan, pointer_in, at, digit, on_path}
+use Rattle.tree.specs.Paths.{led, OnlyChild, OtherChild, Surveyed}
+use Rattle.tree.specs.Steps.{HolesBeside, PointerBeside}
 use Rattle.tree.proofs.Places.{path_down}
+use Rattle.tree.proofs.Pointers.{led_child}
 
--- one look
-pub looked_hole : (mem : List ℕ) (q : Option Pointer) (k : ℕ) → q ≡ None → Looked mem q k None false
-unfolding child
-looked_hole mem q k e = subst (λ (x : Option Pointer). Looked mem x k None false) (sym e)
-    (record { is = refl; only = λ z j l n. refl; other = λ z. absurd (false≢true z) })
+-- what a look at each of the eight pointers says
+abbrev pub HereBeside : List ℕ → ℕ → ℕ → Type 0
+HereBeside part k j = (j ≡ k → ⊥) × (is_some (pointer_in part j) ≡ true)
 
-pub looked_some : (mem part : List ℕ) (q next : Option Pointer) (p : Pointer) (k : ℕ) (beside : Bool) → q ≡ Some p → part ≡ block mem p.block
-    → next ≡ pointer_in part k → (beside ≡ false → HolesBeside part k 8) → (beside ≡ true → PointerBeside part k)
-    → Looked mem q k next beside
-unfolding child
-looked_some mem part q next p k beside e b n holes other = record {
-  is = n ∙ into k;
-  only = λ z j l m. sym (into j) ∙ holes z j l m;
-  other = λ z. let o = other z in record { which = o.which; small = o.small; other = o.other; pointer = o.pointer; here = sym (into o.which) ∙ o.here };
+abbrev pub HoleUnless : List ℕ → ℕ → ℕ → Type 0
+HoleUnless part k j = (j ≡ k → ⊥) → pointer_in part j ≡ None
+
+pub hole_told : (o : Option Pointer) → is_some o ≡ false → o ≡ None
+hole_told None e = refl
+hole_told (Some p) e = absurd cc
+
+pub holes_beside : (part : List ℕ) (k : ℕ) (r : Bool)
+    → MatchBool r ((i : ℕ) × (i < length (range_with_len 0 8)) × HoldsAt (HereBeside part k) (range_with_len 0 8) i) (AllWithin (HoleUnless part k) (range_with_len 0 8) 0 (length (range_with_len 0 8)))
+    → r ≡ false → HolesBeside part k fan
+holes_beside part k true m e = absurd cc
+holes_beside part k false m e = λ j l n. (let at : get_or (range_with_len 0 8) j 0 ≡ 0 + j = get_or-range_with_len 0 8 j 0 l in subst (λ (i : ℕ). HoleUnless part k i) (at ∙ zero-add j) (m j 0 (omega arith) l) n)
+
+-- what the bytes of a block say of what leads to it
+pub only_beside : (mem part : List ℕ) (q : Option Pointer) (k : ℕ) → part ≡ led mem q → HolesBeside part k fan → OnlyChild mem q k
+only_beside mem part q k e holes = λ j l n. sym (led_child mem q j l) ∙ ap (λ (x : List ℕ). pointer_in x j) (sym e) ∙ holes j l n
+
+pub other_beside : (mem part : List ℕ) (q : Option Pointer) (k : ℕ) → part ≡ led mem q → PointerBeside part k → OtherChild mem q k
+other_beside mem part q k e o = record {
+  which = o.which;
+  small = o.small;
+  other = o.other;
+  pointer = o.pointer;
+  here = sym (led_child mem q o.which o.small) ∙ ap (λ (x : List ℕ). pointer_in x o.which) (sym e) ∙ o.here;
 }
-  where
-    into : (j : ℕ) → pointer_in part j ≡ child mem q j
-    into j = ap (λ (x : List ℕ). pointer_in x j) b ∙ ap (λ (x : Option Pointer). child mem x j) (sym e)
 
 -- as `Surveyed`, down to depth d
 pub record Surveying (mem : List ℕ) (root : Option Pointer) (h p : ℕ) (old : List (Option Pointer)) (k d : ℕ) : Type 0 where
@@ -52,14 +68,22 @@ module _ (mem : List ℕ) (root : Option Pointer) (h p : ℕ) where
     other = λ a. absurd (omega arith);
   }
 
-  pub survey_more : (old : List (Option Pointer)) (k k' d j : ℕ) (here next : Option Pointer) (beside : Bool) → h ≤ 4 → d < h
-      → Surveying mem root h p old k d → here ≡ on_path mem root h p d → j ≡ digit h p d → Looked mem here j next beside
+  pub survey_more : (old : List (Option Pointer)) (part : List ℕ) (k k' d j : ℕ) (next : Option Pointer) (beside : Bool) → h ≤ 4 → d < h
+      → Surveying mem root h p old k d → j ≡ digit h p d → part ≡ led mem (get_or old d None) → next ≡ pointer_in part j
+      → (beside ≡ false → HolesBeside part j fan) → (beside ≡ true → PointerBeside part j)
       → ((beside ≡ true) × (k' ≡ d + 1)) ⊎ ((beside ≡ false) × (k' ≡ k))
-      → Surveying mem root h p (set old (d + 1) next) k' (d + 1) × (next ≡ on_path mem root h p (d + 1))
-  survey_more old k k' d j here next beside h4 lt s eh ej look way = (⊎_elim taken left way, np)
+      → Surveying mem root h p (set old (d + 1) next) k' (d + 1)
+  survey_more old part k k' d j next beside h4 lt s ej ep en holes other way = ⊎_elim taken left way
     where
+      here : get_or old d None ≡ on_path mem root h p d
+      here = s.pointers d (omega arith)
+
+      led_here : part ≡ led mem (on_path mem root h p d)
+      led_here = ep ∙ ap (led mem) here
+
       np : next ≡ on_path mem root h p (d + 1)
-      np = look.is ∙ ap₂ (λ (x : Option Pointer) (i : ℕ). child mem x i) eh ej ∙ sym (path_down mem root h p d lt) ∙ ap (on_path mem root h p) (sym (add-one d))
+      np = en ∙ ap₂ (λ (x : List ℕ) (i : ℕ). pointer_in x i) led_here ej ∙ led_child mem (on_path mem root h p d) (digit h p d) (omega arith)
+          ∙ sym (path_down mem root h p d lt) ∙ ap (on_path mem root h p) (sym (add-one d))
 
       long' : length (set old (d + 1) next) ≡ 5
       long' = length-set old (d + 1) next ∙ s.long
@@ -83,7 +107,7 @@ module _ (mem : List ℕ) (root : Option Pointer) (h p : ℕ) where
             within = (let y = w.1 in omega arith);
             only = λ e a b. absurd (let y = w.1 in omega arith);
             other = λ a. subst (λ (m : ℕ). OtherChild mem (on_path mem root h p m) (digit h p m)) (sym z)
-                (subst (λ (i : ℕ). OtherChild mem (on_path mem root h p d) i) ej (subst (λ (q : Option Pointer). OtherChild mem q j) eh (look.other w.0)));
+                (subst (λ (i : ℕ). OtherChild mem (on_path mem root h p d) i) ej (other_beside mem part (on_path mem root h p d) j led_here (other w.0)));
           }
 
       left : (beside ≡ false) × (k' ≡ k) → Surveying mem root h p (set old (d + 1) next) k' (d + 1)
@@ -94,7 +118,7 @@ module _ (mem : List ℕ) (root : Option Pointer) (h p : ℕ) where
         within = (let y = s.within in omega arith);
         only = λ e a b. ⊎_elim
             (λ (z : e ≡ d). subst (λ (m : ℕ). OnlyChild mem (on_path mem root h p m) (digit h p m)) (sym z)
-            (subst (λ (i : ℕ). OnlyChild mem (on_path mem root h p d) i) ej (subst (λ (q : Option Pointer). OnlyChild mem q j) eh (look.only w.0))))
+            (subst (λ (i : ℕ). OnlyChild mem (on_path mem root h p d) i) ej (only_beside mem part (on_path mem root h p d) j led_here (holes w.0))))
             (λ (n : e ≡ d → ⊥). s.only e a (omega (arith, n)))
             (cases_eq e d);
         other = s.other;

@@ -1,11 +1,13 @@
 -- Going down a tree by its code, where each call goes one place up first.
-use Rattle.std.proofs.Common.{◌≡◌, ℕ, zero, suc, ◌+◌, ◌-◌, ◌*◌, ◌/◌, ◌%◌, ◌^◌, ◌<◌, ◌≤◌, List, Some, None, Option, sym, refl, ap, ◌∙◌, ap₂, mod-lt, pow-suc, arith}
+use Rattle.std.proofs.Common.{◌≡◌, ℕ, zero, suc, ◌+◌, ◌-◌, ◌*◌, ◌/◌, ◌%◌, ◌^◌, ◌<◌, ◌≤◌, List, Some, Option, sym, refl, ap, ◌∙◌, ap₂, mod-lt, pow-suc, arith}
 use native.Mathlib.Nat.{pow-le-pow_right}
 use lib.Arith.{mod-mul}
 use Rattle.records.specs.declared.rows.Pointer.{Pointer}
-use Rattle.tree.specs.Trees.{fan, block, pointer_in, child, at, Reaches, Outside, Lost}
+use Rattle.tree.specs.Trees.{fan, pointer_in, child, at, Reaches, Lost}
+use Rattle.tree.specs.Paths.{led}
 use Rattle.tree.specs.Steps.{LeadsOut}
-use Rattle.tree.proofs.Places.{fan_pos, up_wide, reached, at_down, hole_child, some_child}
+use Rattle.tree.proofs.Places.{fan_pos, up_wide, reached, at_down}
+use Rattle.tree.proofs.Pointers.{led_child}
 
 pub fan_small : (k : ℕ) → k ≤ 4 → fan ^ k ≤ 4096
 fan_small k h = pow-le-pow_right {n = 8} (omega arith) {i = k} {j = 4} h
@@ -20,13 +22,10 @@ step : (mem : List ℕ) (root : Option Pointer) (d i : ℕ) → 0 < d → at mem
 step mem root zero i h = absurd (omega arith)
 step mem root (suc d) i h = let e : suc d - 1 ≡ d = omega arith in rw e (at_down mem root d i)
 
-pub below_hole : (mem : List ℕ) (root : Option Pointer) (d i : ℕ) → 0 < d → None ≡ at mem root (d - 1) (i / fan) → None ≡ at mem root d i
-below_hole mem root d i h e = sym (hole_child mem (i % fan)) ∙ ap (λ (q : Option Pointer). child mem q (i % fan)) e ∙ sym (step mem root d i h)
-
-pub below_pointer : (mem part : List ℕ) (root : Option Pointer) (d i k : ℕ) (p : Pointer) (q : Option Pointer) → 0 < d → k ≡ i % fan
-    → Some p ≡ at mem root (d - 1) (i / fan) → part ≡ block mem p.block → q ≡ pointer_in part k → q ≡ at mem root d i
-below_pointer mem part root d i k p q h low e b r =
-    r ∙ ap₂ (λ (x : List ℕ) (j : ℕ). pointer_in x j) b low ∙ sym (some_child mem p (i % fan))
+pub below : (mem part : List ℕ) (root : Option Pointer) (d i k : ℕ) (up q : Option Pointer) → 0 < d → k ≡ i % fan
+    → up ≡ at mem root (d - 1) (i / fan) → part ≡ led mem up → q ≡ pointer_in part k → q ≡ at mem root d i
+below mem part root d i k up q h low e b r =
+    r ∙ ap₂ (λ (x : List ℕ) (j : ℕ). pointer_in x j) b low ∙ led_child mem up (i % fan) (omega arith)
     ∙ ap (λ (q : Option Pointer). child mem q (i % fan)) e ∙ sym (step mem root d i h)
 
 -- a refusal above is one here
@@ -40,12 +39,12 @@ lost_up mem root (suc d) i h f lt =
     let deep = r.3.deep in
     (l.0, (r.0, r.1, r.2, record { deep = omega arith; wide = r.3.wide; here = r.3.here }, r.4), l.2)
 
-pub lost_here : (mem : List ℕ) (root : Option Pointer) (d i : ℕ) (p : Pointer) → 0 < d
-    → Some p ≡ at mem root (d - 1) (i / fan) → Outside mem p.block → i < fan ^ d → Lost mem root d
-lost_here mem root zero i p h e o lt = absurd (omega arith)
-lost_here mem root (suc d) i p h e o lt =
+pub lost_here : (mem : List ℕ) (root : Option Pointer) (d i : ℕ) (up : Option Pointer) → 0 < d
+    → up ≡ at mem root (d - 1) (i / fan) → LeadsOut mem up → i < fan ^ d → Lost mem root d
+lost_here mem root zero i up h e o lt = absurd (omega arith)
+lost_here mem root (suc d) i up h e o lt =
     let z : suc d - 1 ≡ d = omega arith in
-    (p.block, reached mem root (suc d) d (i / fan) p (omega arith) (up_wide d i lt) (sym (rw z at e)), o)
+    (o.0.block, reached mem root (suc d) d (i / fan) o.0 (omega arith) (up_wide d i lt) (sym (rw z at e) ∙ o.1), o.2)
 
 -- an index past the last one wraps: only its last d digits are followed
 wrapped : (mem : List ℕ) (root : Option Pointer) (d i : ℕ) → at mem root d (i % fan ^ d) ≡ at mem root d i

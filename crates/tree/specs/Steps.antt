@@ -3,12 +3,11 @@
 --     Put mem mem' n bytes    block n now holds the bytes, and the other blocks are as they were
 --     HolesBeside part k n    of the first n pointers of an indirect block, all but the k-th are holes
 --     PointerBeside part k    an indirect block has a pointer at another place than k
---     Looked mem q k next b   next is what q leads to under index k, and b says whether q leads to others
 --     Linked                  the first d blocks of a new path are written, and no others
-use Rattle.std.specs.Prelude.{◌≡◌, ℕ, suc, ◌<◌, Bool, true, false, List, length, Some, None, Option, ◌≢◌}
+use Rattle.std.specs.Prelude.{◌≡◌, ℕ, suc, ◌<◌, List, length, Some, None, Option, ◌≢◌}
 use Rattle.records.specs.declared.rows.Pointer.{Pointer}
-use Rattle.tree.specs.Trees.{fan, block, pointer_in, child, digit, on_path, Outside}
-use Rattle.tree.specs.Paths.{led, with_pointer, new_at, OnlyChild, OtherChild}
+use Rattle.tree.specs.Trees.{fan, block, pointer_in, digit, on_path, Outside}
+use Rattle.tree.specs.Paths.{led, with_pointer, new_at}
 
 abbrev pub LeadsOut : List ℕ → Option Pointer → Type 0
 LeadsOut mem q = (p : Pointer) × (q ≡ Some p) × Outside mem p.block
@@ -27,11 +26,6 @@ pub record PointerBeside (part : List ℕ) (k : ℕ) : Type 0 where
   pub other : which ≡ k → ⊥
   pub pointer : Pointer
   pub here : pointer_in part which ≡ Some pointer
-
-pub record Looked (mem : List ℕ) (q : Option Pointer) (k : ℕ) (next : Option Pointer) (beside : Bool) : Type 0 where
-  pub is : next ≡ child mem q k
-  pub only : beside ≡ false → OnlyChild mem q k
-  pub other : beside ≡ true → OtherChild mem q k
 
 pub record Linked (mem mem' : List ℕ) (root : Option Pointer) (h p : ℕ) (f : ℕ → ℕ) (g k d : ℕ) : Type 0 where
   pub len : length mem' ≡ length mem

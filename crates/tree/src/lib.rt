@@ -18,7 +18,7 @@ mod memory;
 mod paths;
 
 pub use memory::{BLOCK_BYTES, FAN, POINTER_BYTES, read_block};
-pub use paths::{FreshPath, LEVELS, MOST_HEIGHT, Route, descend, rewrite, survey};
+pub use paths::{FreshPath, LEVELS, MOST_HEIGHT, Path, Route, descend, rewrite, survey};
 
 // A tree whose blocks are unchanged is unchanged; replacing a path changes the tree on that path alone.
 pub fn tree_laws_hold()

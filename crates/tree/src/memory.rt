@@ -1,5 +1,7 @@
-// Blocks in lent memory, and pointers in the bytes of a block. A block is read as a part of the memory, with no copy.
-ghost use Rattle.std.specs.Prelude.{◌≡◌, ◌+◌, ◌*◌, ◌<◌, ◌≤◌, ◌⊎◌, length, MatchResult};
+// Blocks in lent memory, and pointers in the bytes of a block. A block is read where it lies, with no copy. The memory
+// is a slice at each call: a struct over it would have to be two, since readers share it and writers do not.
+ghost use Rattle.std.specs.Prelude.{◌≡◌, ◌+◌, ◌*◌, ◌<◌, ◌≤◌, ◌⊎◌, length, MatchResult, OnErr};
+ghost use Rattle.std.specs.List.{flat_map};
 ghost use Rattle.faults.specs.declared.PoolCause.TheVariants.{NoPool};
 ghost use Rattle.tree.specs.Paths.{filled, led, pointer_bytes, with_pointer};
 ghost use Rattle.tree.specs.Steps.{LeadsOut, Put};
@@ -18,46 +20,38 @@ pub const POINTER_BYTES: usize = 8;
 pub const FAN: u32 = 8;
 
 // The number in four bytes, most significant first.
-fn word(part: &[u8], i: usize) -> u32
-    requires { (i + 4 ≤ length part.now) × (length part.now ≤ block_size) }
-    ensures value { result ≡ word_at part.now i }
+fn word(bytes: &[u8; BLOCK_BYTES], start: usize) -> u32
+    requires { start + 4 ≤ block_size }
+    ensures value { result ≡ word_at bytes.now start }
 {
-    u32::from_be_bytes([part[i], part[i + 1], part[i + 2], part[i + 3]])
+    u32::from_be_bytes(bytes[start..start + 4].try_into().unwrap())
 }
 
-// The pointer at place k of an indirect block; eight zero bytes are a hole.
-pub(crate) fn decode(part: &[u8], k: usize) -> Option<Pointer>
-    requires { (length part.now ≡ block_size) × (k < fan) }
-    ensures value { result ≡ pointer_in part.now k }
+// The pointer at a place of an indirect block; eight zero bytes are a hole.
+pub(crate) fn decode(bytes: &[u8; BLOCK_BYTES], place: usize) -> Option<Pointer>
+    requires { place < fan }
+    ensures value { result ≡ pointer_in bytes.now place }
 {
-    let block = word(part, POINTER_BYTES * k);
-    let birth = word(part, POINTER_BYTES * k + 4);
-    if block == 0 && birth == 0 {
-        None
-    } else {
-        Some(Pointer { block, birth })
-    }
+    let block = word(bytes, POINTER_BYTES * place);
+    let birth = word(bytes, POINTER_BYTES * place + 4);
+    (block != 0 || birth != 0).then_some(Pointer { block, birth })
 }
 
-// The bytes of a pointer; a hole is zero bytes.
-fn encode(q: Option<Pointer>) -> [u8; POINTER_BYTES]
-    ensures value { result ≡ pointer_bytes q }
+// The two words of a pointer, as bytes; a hole is zero bytes.
+fn encode(pointer: Option<Pointer>) -> [[u8; 4]; 2]
+    ensures value { flat_map (λ word. word) result ≡ pointer_bytes pointer }
 {
-    let Some(p) = q else {
-        return [0; POINTER_BYTES];
-    };
-    let b = p.block.to_be_bytes();
-    let g = p.birth.to_be_bytes();
-    [b[0], b[1], b[2], b[3], g[0], g[1], g[2], g[3]]
+    let (block, birth) = pointer.map_or((0, 0), |pointer| (pointer.block, pointer.birth));
+    [block.to_be_bytes(), birth.to_be_bytes()]
 }
 
-// Replaces the pointer at place k of an indirect block.
-fn put_pointer(part: &mut [u8], k: usize, q: Option<Pointer>)
-    requires { (length part.old ≡ block_size) × (k < fan) }
-    ensures after { part.new ≡ with_pointer part.old k q }
+// Replaces the pointer at a place of an indirect block.
+fn put_pointer(bytes: &mut [u8; BLOCK_BYTES], place: usize, pointer: Option<Pointer>)
+    requires { place < fan }
+    ensures after { bytes.new ≡ with_pointer bytes.old place pointer }
 {
-    let start = POINTER_BYTES * k;
-    part[start..start + POINTER_BYTES].copy_from_slice(&encode(q));
+    let start = POINTER_BYTES * place;
+    bytes[start..start + POINTER_BYTES].copy_from_slice(encode(pointer).as_flattened());
 }
 
 // A block that begins with a text, and has zero bytes after it.
@@ -66,15 +60,15 @@ pub(crate) fn filled_block(text: &[u8]) -> [u8; BLOCK_BYTES]
     ensures value { result ≡ filled text.now }
 {
     let mut block = [0; BLOCK_BYTES];
-    block[0..text.len()].copy_from_slice(text);
+    block[..text.len()].copy_from_slice(text);
     block
 }
 
-// Where block n begins.
-fn block_start(memory: &[u8], n: u32) -> Result<usize, PoolCause>
-    ensures start { MatchResult result (λ start. (start ≡ block_size * n) × (start + block_size ≤ length memory.now)) (λ c. (c ≡ NoPool) × Outside memory.now n) }
+// Where a block begins.
+fn block_start(memory: &[u8], number: u32) -> Result<usize, PoolCause>
+    ensures start { MatchResult result (λ start. (start ≡ block_size * number) × (start + block_size ≤ length memory.now)) (λ c. (c ≡ NoPool) × Outside memory.now number) }
 {
-    let start = BLOCK_BYTES * n as usize;
+    let start = BLOCK_BYTES * number as usize;
     if start + BLOCK_BYTES <= memory.len() {
         Ok(start)
     } else {
@@ -82,50 +76,51 @@ fn block_start(memory: &[u8], n: u32) -> Result<usize, PoolCause>
     }
 }
 
-// The bytes of block n.
-pub fn read_block(memory: &[u8], n: u32) -> Result<&[u8], PoolCause>
-    ensures read { MatchResult result (λ part. (part.now ≡ block memory.now n) × (length part.now ≡ block_size)) (λ c. (c ≡ NoPool) × Outside memory.now n) }
+// The bytes of a block.
+pub fn read_block(memory: &[u8], number: u32) -> Result<&[u8; BLOCK_BYTES], PoolCause>
+    ensures read { MatchResult result (λ bytes. (bytes.now ≡ block memory.now number) × (length bytes.now ≡ block_size)) (λ c. (c ≡ NoPool) × Outside memory.now number) }
 {
-    let start = block_start(memory, n)?;
-    Ok(&memory[start..start + BLOCK_BYTES])
+    let start = block_start(memory, number)?;
+    Ok(memory[start..].first_chunk().unwrap())
 }
 
-// Stores the bytes of block n.
+// Stores the bytes of a block.
 pub(crate) fn store_block(
     memory: &mut [u8],
-    n: u32,
+    number: u32,
     bytes: &[u8; BLOCK_BYTES],
 ) -> Result<(), PoolCause>
-    ensures stored { MatchResult result (λ _. Put memory.old memory.new n bytes.now) (λ c. (c ≡ NoPool) × Outside memory.old n) }
+    ensures stored { MatchResult result (λ _. Put memory.old memory.new number bytes.now) (λ c. (c ≡ NoPool) × Outside memory.old number) }
+    ensures unchanged { OnErr result (memory.new ≡ memory.old) }
 {
-    let start = block_start(memory, n)?;
+    let start = block_start(memory, number)?;
     memory[start..start + BLOCK_BYTES].copy_from_slice(bytes);
     Ok(())
 }
 
-// A copy of the block that a pointer leads to; below a hole there are holes.
-fn load(memory: &[u8], q: Option<Pointer>) -> Result<[u8; BLOCK_BYTES], PoolCause>
-    ensures loaded { MatchResult result (λ bytes. bytes ≡ led memory.now q) (λ c. (c ≡ NoPool) × LeadsOut memory.now q) }
+// The block that a pointer leads to; below a hole there are holes.
+pub(crate) fn load(memory: &[u8], pointer: Option<Pointer>) -> Result<&[u8; BLOCK_BYTES], PoolCause>
+    ensures loaded { MatchResult result (λ bytes. bytes.now ≡ led memory.now pointer) (λ c. (c ≡ NoPool) × LeadsOut memory.now pointer) }
 {
-    let mut bytes = [0; BLOCK_BYTES];
-    if let Some(p) = q {
-        bytes.copy_from_slice(read_block(memory, p.block)?);
-    }
-    Ok(bytes)
+    pointer.map_or(
+        Ok(&[0; BLOCK_BYTES]),
+        |pointer| read_block(memory, pointer.block),
+    )
 }
 
-// Makes block n a copy of what a pointer leads to, with the pointer at place k replaced.
+// Makes a block a copy of what a pointer leads to, with the pointer at a place replaced.
 pub(crate) fn copy_with(
     memory: &mut [u8],
     old: Option<Pointer>,
-    n: u32,
-    k: usize,
-    q: Option<Pointer>,
+    number: u32,
+    place: usize,
+    pointer: Option<Pointer>,
 ) -> Result<(), PoolCause>
-    requires { k < fan }
-    ensures copied { MatchResult result (λ _. Put memory.old memory.new n (with_pointer (led memory.old old) k q)) (λ c. (c ≡ NoPool) × (LeadsOut memory.old old ⊎ Outside memory.old n)) }
+    requires { place < fan }
+    ensures copied { MatchResult result (λ _. Put memory.old memory.new number (with_pointer (led memory.old old) place pointer)) (λ c. (c ≡ NoPool) × (LeadsOut memory.old old ⊎ Outside memory.old number)) }
+    ensures unchanged { OnErr result (memory.new ≡ memory.old) }
 {
-    let mut bytes = load(memory, old)?;
-    put_pointer(&mut bytes, k, q);
-    store_block(memory, n, &bytes)
+    let mut bytes = *load(memory, old)?;
+    put_pointer(&mut bytes, place, pointer);
+    store_block(memory, number, &bytes)
 }

@@ -1,7 +1,9 @@
+use Rattle.std.proofs.lemmas.Option.{MatchOption-at_some}
 use Rattle.tree.proofs.Blocks.{block_read}
 use Rattle.tree.proofs.memory.read_block.Goals as goal
 
 pub returns : goal.returns
 returns c =
     let s = c.in_ok-start.ensures.start in
-    record { read = block_read _ _ _ s.0 s.1 }
+    let chunk = MatchOption-at_some _ _ _ c.unwrap.ensures c.first_chunk.ensures.cases in
+    record { read = block_read _ _ _ _ s.0 s.1 chunk.same }
