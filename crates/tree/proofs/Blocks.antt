@@ -1,5 +1,5 @@
 -- Bytes of blocks, and the pointers in them.
-use Rattle.std.proofs.Common.{◌≡◌, ℕ, Bool, true, false, refl, ◌+◌, ◌-◌, ◌*◌, ◌<◌, ◌≤◌, eqb, ◌⊎◌, List, ◌++◌, length, take, drop, replicate, Some, None, Option, sym, ap, ◌∙◌, subst, ap₂, inl, inr, arith, length-drop, length-take, rules, eq-eqb, ne_eqb}
+use Rattle.std.proofs.Common.{◌≡◌, ℕ, Bool, true, false, refl, ◌+◌, ◌-◌, ◌*◌, ◌<◌, ◌≤◌, eqb, ◌⊎◌, List, ◌++◌, length, take, drop, replicate, Some, None, Option, sym, ap, ◌∙◌, subst, ap₂, inl, inr, arith, length-drop, rules, eq-eqb, ne_eqb}
 use borrow.Rule.Slice.PartMut.{put_mid, Post-is}
 use Rattle.std.specs.Bool.{then_some}
 use Rattle.std.proofs.lemmas.List.{places, drop-replicate, take_all}
@@ -7,7 +7,7 @@ use Rattle.std.proofs.lemmas.Slice.{between_is, take-put_mid_below, drop-put_mid
 use Rattle.std.proofs.lemmas.Bool.{cond-true, cond-false, cases_lt}
 use Rattle.records.specs.declared.rows.Pointer.{Pointer}
 use Rattle.tree.specs.Trees.{block, word_at, pointer_in}
-use Rattle.tree.specs.Paths.{filled, pointer_bytes, with_pointer}
+use Rattle.tree.specs.Paths.{filled}
 use Rattle.tree.specs.Steps.{Put}
 
 abbrev pointed : ℕ → ℕ → Option Pointer
@@ -23,12 +23,6 @@ pointer_told part k b t true eb et some hole =
 pointer_told part k b t false eb et some hole =
     let none = hole refl in
     sym (cond-true (eqb (word_at part (8 * k) + word_at part (8 * k + 4)) 0) None _ (eq-eqb _ 0 (omega arith)))
-
--- a pointer's bytes in the place of eight others
-pub pointer_put : (part ys : List ℕ) (k : ℕ) (q : Option Pointer) → ys ≡ pointer_bytes q
-    → put_mid (8 * k) (8 * k + 8 - 8 * k) part ys ≡ with_pointer part k q
-pointer_put part ys k q e =
-    ap₂ (λ (x y : List ℕ). take (8 * k) part ++ (x ++ y)) e (Post-is (8 * k) (8 * k + 8) part (omega arith))
 
 -- a text at the start of zero bytes
 pub filled_put : (text ys : List ℕ) → ys ≡ text → put_mid 0 (length text - 0) (replicate 64 0) ys ≡ filled text
@@ -61,9 +55,6 @@ block_put mem ys bytes n start k at e fits size same =
     subst (λ (z : List ℕ). Put mem (put_mid start k mem ys) n z) same
     (subst (λ (s : ℕ). Put mem (put_mid s k mem ys) n ys) (sym at) (ys_put mem ys n k e (omega arith) (ap length same ∙ size)))
 
-pub block_read : (mem part : List ℕ) (n start : ℕ) → start ≡ 64 * n → start + 64 ≤ length mem
-    → part ≡ take 64 (take (length mem - start) (drop start mem)) → (part ≡ block mem n) × (length part ≡ 64)
-block_read mem part n start at fits e =
-    let rest : take (length mem - start) (drop start mem) ≡ drop start mem = take_all _ _ (simp length-drop (omega arith)) in
-    let is : part ≡ take 64 (drop start mem) = rw rest at e in
-    (is ∙ ap (λ (s : ℕ). take 64 (drop s mem)) at, ap length is ∙ simp (length-take, length-drop) (omega arith))
+pub block_read : (mem part : List ℕ) (n start : ℕ) → start ≡ 64 * n → part ≡ take 64 (take (length mem - start) (drop start mem)) → part ≡ block mem n
+block_read mem part n start at e =
+    e ∙ ap (take 64) (take_all _ _ (simp length-drop (omega arith))) ∙ ap (λ (s : ℕ). take 64 (drop s mem)) at

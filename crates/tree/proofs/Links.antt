@@ -1,15 +1,13 @@
 -- The blocks of a new path, one after the other.
-use Rattle.std.proofs.Common.{get_or, take, get_or-take, length-take, Bor, MatchOption, ◌≡◌, ℕ, suc, ◌+◌, ◌<◌, ◌≤◌, ◌⊎◌, List, length, Some, None, Option, sym, refl, ap, ◌∙◌, subst, ap₂, inl, inr, add-one, arith}
+use Rattle.std.proofs.Common.{get_or, take, get_or-take, length-take, ◌≡◌, ℕ, suc, ◌+◌, ◌<◌, ◌≤◌, ◌⊎◌, List, length, Some, None, Option, sym, refl, ap, ◌∙◌, subst, ap₂, inl, inr, add-one, arith}
 use Rattle.std.proofs.lemmas.Bool.{cases_lt}
-use Rattle.std.specs.List.{HoldsAt}
-use Rattle.std.specs.Option.{IsSomeAnd}
+use Rattle.std.proofs.lemmas.List.{get_or_default}
 use Rattle.records.specs.declared.rows.Pointer.{Pointer}
 use Rattle.tree.specs.Trees.{block, index_at, digit, on_path, Reaches, Outside, Lost}
 use Rattle.tree.specs.Paths.{led, with_pointer, new_at, Fresh, Short, Rewritten}
 use Rattle.tree.specs.Steps.{LeadsOut, Put, Linked}
 use Rattle.tree.specs.declared.paths.FreshPath.{FreshPath}
 use Rattle.tree.specs.Calls.{taken, Spares}
-use Rattle.tree.proofs.Reroutes.{new_none, new_some}
 use Rattle.tree.proofs.Walks.{reached_any, out_lost}
 
 led_same : (mem mem' : List ℕ) (q : Option Pointer) → ((p : Pointer) → q ≡ Some p → block mem' p.block ≡ block mem p.block) → led mem' q ≡ led mem q
@@ -77,25 +75,16 @@ module _ (mem : List ℕ) (root : Option Pointer) (h p : ℕ) (f : ℕ → ℕ) 
     others = λ b ne. l.others b (λ e el. ne e (omega arith));
   }
 
--- the pointer of a new path at a depth, by a look at its blocks
-pub pointer_new : (f : FreshPath) (d : ℕ) (o : Option (Bor ℕ)) (r : Option Pointer) (Q : Bor ℕ → Pointer → Type 0)
-    → MatchOption o (length f.blocks.now ≤ d) (λ x. (d < length f.blocks.now) × HoldsAt (λ y. x.now ≡ y) f.blocks.now d)
-    → MatchOption o (r ≡ None) (λ x. IsSomeAnd r (Q x)) → ((x : Bor ℕ) (p : Pointer) → Q x p → p ≡ record { block = x.now; birth = f.group })
-    → r ≡ new_at (taken f) f.group (length f.blocks.now) d
-pointer_new f d None r Q past e made = e ∙ sym (new_none (taken f) f.group (length f.blocks.now) d past)
-pointer_new f d (Some x) None Q found e made = absurd e
-pointer_new f d (Some x) (Some p) Q found e made =
-    ap (λ (q : Pointer). Some q) (made x p e) ∙ ap (λ (b : ℕ). Some (record { block = b; birth = f.group })) (found.1 0)
-    ∙ sym (new_some (taken f) f.group (length f.blocks.now) d found.0)
-
--- the blocks of the new path, as far as m of them go
-pub taken_at : (f : FreshPath) (m d : ℕ) → d < length (take m f.blocks.now) → get_or (take m f.blocks.now) d 0 ≡ taken f d
-taken_at f m d low = get_or-take m f.blocks.now d 0 (omega (arith, length-take m f.blocks.now))
+-- a block of the new path, among the first m of them
+pub taken_at : (f : FreshPath) (m d : ℕ) → d < length (take m f.blocks.now) → (d < length f.blocks.now) × (d < m) × (get_or (take m f.blocks.now) d 0 ≡ taken f d)
+taken_at f m d low =
+    let below : d < m = omega (arith, length-take m f.blocks.now) in
+    (omega (arith, length-take m f.blocks.now), below, get_or-take m f.blocks.now d 0 below)
 
 -- one more block written is one of the new path
 pub spares_more : (mem mem' mem'' bytes : List ℕ) (f : FreshPath) (d n : ℕ) → Spares mem mem' f → d < length f.blocks.now → n ≡ taken f d
     → Put mem' mem'' n bytes → Spares mem mem'' f
 spares_more mem mem' mem'' bytes f d n s low en put = record {
   len = put.len ∙ s.len;
-  others = λ b ne. put.off b (λ z. ne d low (sym en ∙ sym z)) ∙ s.others b ne;
+  others = λ b ne. put.off b (λ z. ne (d, low, get_or_default f.blocks.now d b 0 low ∙ sym en ∙ sym z)) ∙ s.others b ne;
 }

@@ -1,13 +1,13 @@
 -- A survey of a path, one depth after the other.
-use Rattle.std.proofs.Common.{zero-add, ◌≡◌, ℕ, zero, suc, ◌+◌, ◌-◌, ◌<◌, ◌≤◌, Bool, true, false, ◌⊎◌, List, length, get_or, set, replicate, Some, None, Option, sym, refl, ap, ◌∙◌, subst, ap₂, ⊎_elim, add-one, arith, length-set, get_or-set_other, get_or-set_same}
+use Rattle.std.proofs.Common.{zero-add, ◌≡◌, ℕ, zero, suc, ◌+◌, ◌-◌, ◌<◌, ◌≤◌, Bool, true, false, ◌⊎◌, List, length, get_or, set, replicate, None, Option, sym, refl, ap, ◌∙◌, subst, ap₂, ⊎_elim, add-one, arith, length-set, get_or-set_other, get_or-set_same}
 use Rattle.std.proofs.lemmas.Bool.{cases_eq}
 use Rattle.std.specs.Bool.{MatchBool}
 use Rattle.std.specs.Option.{is_some}
 use Rattle.std.specs.List.{range_with_len, AllWithin, HoldsAt}
 use Rattle.std.proofs.lemmas.List.FromFn.{get_or-range_with_len}
 use Rattle.records.specs.declared.rows.Pointer.{Pointer}
-use Rattle.tree.specs.Trees.{fan, pointer_in, at, digit, on_path}
-use Rattle.tree.specs.Paths.{led, OnlyChild, OtherChild, Surveyed}
+use Rattle.tree.specs.Trees.{pointer_in, at, digit, on_path}
+use Rattle.tree.specs.Paths.{led, OnlyChild, OtherChild}
 use Rattle.tree.specs.Steps.{HolesBeside, PointerBeside}
 use Rattle.tree.proofs.Places.{path_down}
 use Rattle.tree.proofs.Pointers.{led_child}
@@ -19,18 +19,14 @@ HereBeside part k j = (j ≡ k → ⊥) × (is_some (pointer_in part j) ≡ true
 abbrev pub HoleUnless : List ℕ → ℕ → ℕ → Type 0
 HoleUnless part k j = (j ≡ k → ⊥) → pointer_in part j ≡ None
 
-pub hole_told : (o : Option Pointer) → is_some o ≡ false → o ≡ None
-hole_told None e = refl
-hole_told (Some p) e = absurd cc
-
 pub holes_beside : (part : List ℕ) (k : ℕ) (r : Bool)
     → MatchBool r ((i : ℕ) × (i < length (range_with_len 0 8)) × HoldsAt (HereBeside part k) (range_with_len 0 8) i) (AllWithin (HoleUnless part k) (range_with_len 0 8) 0 (length (range_with_len 0 8)))
-    → r ≡ false → HolesBeside part k fan
+    → r ≡ false → HolesBeside part k
 holes_beside part k true m e = absurd cc
 holes_beside part k false m e = λ j l n. (let at : get_or (range_with_len 0 8) j 0 ≡ 0 + j = get_or-range_with_len 0 8 j 0 l in subst (λ (i : ℕ). HoleUnless part k i) (at ∙ zero-add j) (m j 0 (omega arith) l) n)
 
 -- what the bytes of a block say of what leads to it
-pub only_beside : (mem part : List ℕ) (q : Option Pointer) (k : ℕ) → part ≡ led mem q → HolesBeside part k fan → OnlyChild mem q k
+pub only_beside : (mem part : List ℕ) (q : Option Pointer) (k : ℕ) → part ≡ led mem q → HolesBeside part k → OnlyChild mem q k
 only_beside mem part q k e holes = λ j l n. sym (led_child mem q j l) ∙ ap (λ (x : List ℕ). pointer_in x j) (sym e) ∙ holes j l n
 
 pub other_beside : (mem part : List ℕ) (q : Option Pointer) (k : ℕ) → part ≡ led mem q → PointerBeside part k → OtherChild mem q k
@@ -70,7 +66,7 @@ module _ (mem : List ℕ) (root : Option Pointer) (h p : ℕ) where
 
   pub survey_more : (old : List (Option Pointer)) (part : List ℕ) (k k' d j : ℕ) (next : Option Pointer) (beside : Bool) → h ≤ 4 → d < h
       → Surveying mem root h p old k d → j ≡ digit h p d → part ≡ led mem (get_or old d None) → next ≡ pointer_in part j
-      → (beside ≡ false → HolesBeside part j fan) → (beside ≡ true → PointerBeside part j)
+      → (beside ≡ false → HolesBeside part j) → (beside ≡ true → PointerBeside part j)
       → ((beside ≡ true) × (k' ≡ d + 1)) ⊎ ((beside ≡ false) × (k' ≡ k))
       → Surveying mem root h p (set old (d + 1) next) k' (d + 1)
   survey_more old part k k' d j next beside h4 lt s ej ep en holes other way = ⊎_elim taken left way
@@ -123,8 +119,3 @@ module _ (mem : List ℕ) (root : Option Pointer) (h p : ℕ) where
             (cases_eq e d);
         other = s.other;
       })
-
-  pub survey_all : (old : List (Option Pointer)) (k d : ℕ) → d ≡ h → Surveying mem root h p old k d → Surveyed mem root h p old k
-  survey_all old k d e s =
-      let t = subst (Surveying mem root h p old k) e s in
-      record { long = t.long; pointers = t.pointers; past = t.past; stay = record { within = t.within; only = t.only; other = t.other } }

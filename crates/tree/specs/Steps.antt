@@ -1,7 +1,7 @@
 -- What the inner functions leave.
 --     LeadsOut mem q          the pointer q leads to a block outside the memory
 --     Put mem mem' n bytes    block n now holds the bytes, and the other blocks are as they were
---     HolesBeside part k n    of the first n pointers of an indirect block, all but the k-th are holes
+--     HolesBeside part k      all pointers of an indirect block but the k-th are holes
 --     PointerBeside part k    an indirect block has a pointer at another place than k
 --     Linked                  the first d blocks of a new path are written, and no others
 use Rattle.std.specs.Prelude.{◌≡◌, ℕ, suc, ◌<◌, List, length, Some, None, Option, ◌≢◌}
@@ -17,8 +17,8 @@ pub record Put (mem mem' : List ℕ) (n : ℕ) (bytes : List ℕ) : Type 0 where
   pub here : block mem' n ≡ bytes
   pub off : (b : ℕ) → (b ≢ n) → block mem' b ≡ block mem b
 
-abbrev pub HolesBeside : List ℕ → ℕ → ℕ → Type 0
-HolesBeside part k n = (j : ℕ) → j < n → (j ≢ k) → pointer_in part j ≡ None
+abbrev pub HolesBeside : List ℕ → ℕ → Type 0
+HolesBeside part k = (j : ℕ) → j < fan → (j ≢ k) → pointer_in part j ≡ None
 
 pub record PointerBeside (part : List ℕ) (k : ℕ) : Type 0 where
   pub which : ℕ

@@ -9,7 +9,8 @@
 // position is a hole; a rewrite by such a route, with blocks that the tree does not reach, leaves byte for byte copies
 // of the old indirect blocks with the new pointers of the path, the text filled with zero bytes, and every other block
 // as it was. Such calls refuse only where a block that the tree reaches, or a new one, lies outside the memory, or an
-// argument is out of range. Whatever the memory and the arguments hold, every call returns and stays inside.
+// argument is out of range; and no rewrite, refused or not, changes a block that is not one of the new ones. Whatever the
+// memory and the arguments hold, every call returns and stays inside.
 #![tactic(auto)]
 
 ghost use Rattle.tree.specs.Laws.{Frame, Reroute};

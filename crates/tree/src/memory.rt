@@ -78,7 +78,7 @@ fn block_start(memory: &[u8], number: u32) -> Result<usize, PoolCause>
 
 // The bytes of a block.
 pub fn read_block(memory: &[u8], number: u32) -> Result<&[u8; BLOCK_BYTES], PoolCause>
-    ensures read { MatchResult result (λ bytes. (bytes.now ≡ block memory.now number) × (length bytes.now ≡ block_size)) (λ c. (c ≡ NoPool) × Outside memory.now number) }
+    ensures read { MatchResult result (λ bytes. bytes.now ≡ block memory.now number) (λ c. (c ≡ NoPool) × Outside memory.now number) }
 {
     let start = block_start(memory, number)?;
     Ok(memory[start..].first_chunk().unwrap())

@@ -81,7 +81,7 @@ pub fn descend(
 
 // Whether an indirect block has a pointer at another place.
 fn has_other(bytes: &[u8; BLOCK_BYTES], place: usize) -> bool
-    ensures holes { result ≡ false → HolesBeside bytes.now place fan }
+    ensures holes { result ≡ false → HolesBeside bytes.now place }
     ensures other { result ≡ true → PointerBeside bytes.now place }
 {
     (0..FAN as usize).any(|other| other != place && decode(bytes, other).is_some())
@@ -117,6 +117,7 @@ fn relink(memory: &mut [u8], route: &Route, fresh: FreshPath<'_>) -> Result<(), 
     ensures cause { IfErr result (λ c. c ≡ NoPool) }
 {
     let indirect = fresh.blocks.len().min(route.path.height as usize);
+    // The depth is a number too, so a zip with the old pointers would be no plainer.
     for (depth, &block) in fresh.blocks[..indirect].iter().enumerate() {
         let place = route.path.digit(depth);
         let below = fresh.pointer(depth + 1);

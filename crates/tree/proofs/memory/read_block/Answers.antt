@@ -4,6 +4,5 @@ use Rattle.tree.proofs.memory.read_block.Goals as goal
 
 pub returns : goal.returns
 returns c =
-    let s = c.in_ok-start.ensures.start in
     let chunk = MatchOption-at_some _ _ _ c.unwrap.ensures c.first_chunk.ensures.cases in
-    record { read = block_read _ _ _ _ s.0 s.1 chunk.same }
+    record { read = block_read _ _ _ _ c.in_ok-start.ensures.start.0 chunk.same }

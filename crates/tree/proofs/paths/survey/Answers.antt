@@ -1,7 +1,7 @@
-use Rattle.std.proofs.Common.{refl, inl, inr, arith}
+use Rattle.std.proofs.Common.{inl, inr, arith}
 use Rattle.std.proofs.lemmas.Result.{err_from_is_err_and}
 use Rattle.tree.proofs.Walks.{out_lost}
-use Rattle.tree.proofs.Surveys.{survey_none, survey_more, survey_all}
+use Rattle.tree.proofs.Surveys.{survey_none, survey_more}
 use Rattle.tree.proofs.paths.survey.Goals.{then-has_other, else-has_other}
 use Rattle.tree.proofs.paths.survey.Goals as goal
 
@@ -13,9 +13,6 @@ loop-depth-preserved c =
     survey_more _ _ _ _ _ _ _ _ _ _ _ c.has_other.result (omega arith) c.loop-depth-test.true c.loop-depth.invariant
     c.digit-place.ensures.value c.in_ok-bytes.ensures.loaded c.decode.ensures.value c.has_other.ensures.holes c.has_other.ensures.other
     (elim c.if-has_other.branch [ then-has_other w ↦ inl (w.if-has_other.true, omega (arith, w.kept-is)) | else-has_other w ↦ inr (w.if-has_other.false, w.kept-is) ])
-
-pub returns : goal.returns
-returns c = record { surveyed = (omega arith, refl, survey_all _ _ _ _ _ _ _ (omega arith) c.loop-depth.invariant) }
 
 pub returns-in_err-bytes : goal.returns-in_err-bytes
 returns-in_err-bytes c =
