@@ -15,9 +15,6 @@ led_same mem mem' None same = refl
 led_same mem mem' (Some p) same = same p refl
 
 module _ (mem : List ℕ) (root : Option Pointer) (h p : ℕ) (f : ℕ → ℕ) (g k : ℕ) (fresh : Fresh mem root h f g k) where
-  pub linked_none : Linked mem mem root h p f g k 0
-  linked_none = record { len = refl; indirect = λ e l. absurd (omega arith); others = λ b n. refl }
-
   -- what the old path leads to is not changed
   kept : (mem' : List ℕ) (d : ℕ) → d < k → d < h → Linked mem mem' root h p f g k d → led mem' (on_path mem root h p d) ≡ led mem (on_path mem root h p d)
   kept mem' d low deep l =

@@ -1,5 +1,5 @@
 -- Words and pointers in the bytes of a block.
-use Rattle.std.proofs.Common.{◌≡◌, ℕ, ◌+◌, ◌-◌, ◌*◌, ◌/◌, ◌%◌, ◌^◌, ◌<◌, ◌≤◌, cond, eqb, ◌⊎◌, List, ◌++◌, length, get_or, take, drop, replicate, Some, None, Option, sym, refl, ap, ◌∙◌, ap₂, inl, inr, add-zero, arith, length-append, length-drop, length-take-le, get_or-drop, get_or-take, get_or-append-add}
+use Rattle.std.proofs.Common.{◌≡◌, ℕ, ◌+◌, ◌-◌, ◌*◌, ◌/◌, ◌%◌, ◌^◌, ◌<◌, ◌≤◌, cond, eqb, ◌⊎◌, List, ◌++◌, length, get_or, take, drop, replicate, Some, None, Option, sym, refl, ap, ◌∙◌, ap₂, inl, inr, add-zero, arith, length-drop, length-take-le, get_or-drop, get_or-take, get_or-append-add}
 use native.Mathlib.Nat.{div-div-eq-div-mul}
 use lib.ListN.{length-replicate, get_or-replicate}
 use Rattle.std.proofs.lemmas.List.{get_or_append_left, get_or-append_right}
@@ -32,10 +32,6 @@ word_behind front rest n i long = word_same (front ++ rest) rest n i (λ j small
     let place : n + j ≡ length front + (i + j) = omega arith in
     ap (λ (x : ℕ). get_or (front ++ rest) x 0) place ∙ get_or-append-add front rest (i + j) 0)
 
--- the bytes of a word are read back at any place
-pub word_read : (front rest : List ℕ) (n w : ℕ) → length front ≡ n → w < 2 ^ 32 → word_at (front ++ (word_bytes w ++ rest)) n ≡ w
-word_read front rest n w long small = word_behind front (word_bytes w ++ rest) n 0 (omega arith) ∙ word_first w rest small
-
 -- bytes beside the m bytes that are put at n
 pub beside : (l mid : List ℕ) (n m i : ℕ) → length mid ≡ m → n ≤ length l → (i < n) ⊎ (n + m ≤ i)
     → get_or (take n l ++ (mid ++ drop (n + m) l)) i 0 ≡ get_or l i 0
@@ -61,11 +57,6 @@ word_beside l mid n m i long fits side = word_same _ l i i (λ j small. beside l
 pub length_pointer : (o : Option Pointer) → length (pointer_bytes o) ≡ pointer_size
 length_pointer None = refl
 length_pointer (Some q) = refl
-
--- a block with another pointer is a block
-pub length_with_pointer : (l : List ℕ) (k : ℕ) (o : Option Pointer) → length l ≡ block_size → k < fan → length (with_pointer l k o) ≡ block_size
-length_with_pointer l k o whole small =
-    simp (length-append, length-take-le (pointer_size * k) l (omega arith), length-drop, length_pointer o, whole) (omega arith)
 
 -- what the bytes of a pointer can hold: a hole, or a block number and a birth of four bytes
 abbrev pub Writable : Option Pointer → Type 0

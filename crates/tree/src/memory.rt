@@ -27,7 +27,8 @@ fn word(bytes: &[u8; BLOCK_BYTES], start: usize) -> u32
     u32::from_be_bytes(bytes[start..start + 4].try_into().unwrap())
 }
 
-// The pointer at a place of an indirect block; eight zero bytes are a hole.
+// The pointer at a place of an indirect block; eight zero bytes are a hole. Pointers are another crate's and bytes are
+// std's, so this and `encode` are functions: neither may have a method or a `From` here.
 pub(crate) fn decode(bytes: &[u8; BLOCK_BYTES], place: usize) -> Option<Pointer>
     requires { place < fan }
     ensures value { result ≡ pointer_in bytes.now place }
