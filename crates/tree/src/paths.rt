@@ -97,7 +97,7 @@ pub fn survey(memory: &[u8], root: Option<Pointer>, path: Path) -> Result<Route,
     let mut old = [None; LEVELS];
     old[0] = root;
     let mut kept = 0;
-    // The depth is a number too, so an iterator over the places would be no plainer.
+    // Each step reads one place and writes the next, which no iterator lends together.
     for depth in 0..path.height as usize {
         let place = path.digit(depth);
         let bytes = load(memory, old[depth])?;
