@@ -1,5 +1,5 @@
 -- Going down a tree by its code, where each call goes one place up first.
-use Rattle.std.proofs.Common.{◌≡◌, ℕ, zero, suc, ◌+◌, ◌-◌, ◌*◌, ◌/◌, ◌%◌, ◌^◌, ◌<◌, ◌≤◌, List, Some, Option, sym, refl, ap, ◌∙◌, ap₂, mod-lt, pow-suc, arith}
+use Rattle.std.proofs.Common.{◌≡◌, ℕ, zero, suc, ◌+◌, ◌-◌, ◌*◌, ◌/◌, ◌%◌, ◌^◌, ◌<◌, ◌≤◌, List, Some, None, Option, sym, refl, ap, ◌∙◌, ap₂, mod-lt, pow-suc, arith}
 use native.Mathlib.Nat.{pow-le-pow_right}
 use lib.Arith.{mod-mul}
 use Rattle.records.specs.declared.rows.Pointer.{Pointer}
@@ -27,6 +27,11 @@ pub below : (mem part : List ℕ) (root : Option Pointer) (d i k : ℕ) (up q : 
 below mem part root d i k up q h low e b r =
     r ∙ ap₂ (λ (x : List ℕ) (j : ℕ). pointer_in x j) b low ∙ led_child mem up (i % fan) (omega arith)
     ∙ ap (λ (q : Option Pointer). child mem q (i % fan)) e ∙ sym (step mem root d i h)
+
+-- a hole leads to holes
+pub below_hole : (mem : List ℕ) (root : Option Pointer) (d i : ℕ) → 0 < d → None ≡ at mem root (d - 1) (i / fan) → None ≡ at mem root d i
+unfolding child
+below_hole mem root d i h e = ap (λ (q : Option Pointer). child mem q (i % fan)) e ∙ sym (step mem root d i h)
 
 -- a refusal above is one here
 pub lost_up : (mem : List ℕ) (root : Option Pointer) (d i : ℕ) → 0 < d

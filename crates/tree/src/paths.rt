@@ -6,7 +6,9 @@ ghost use Rattle.tree.specs.Paths.{new_at, Surveyed};
 ghost use Rattle.tree.specs.Steps.{HolesBeside, PointerBeside};
 ghost use Rattle.tree.specs.Trees.{at, block_size, digit, fan, Lost};
 
-use crate::memory::{BLOCK_BYTES, FAN, copy_with, decode, filled_block, load, store_block};
+use crate::memory::{
+    BLOCK_BYTES, FAN, copy_with, decode, filled_block, load, read_block, store_block,
+};
 use faults::PoolCause;
 use records::rows::Pointer;
 
@@ -74,8 +76,10 @@ pub fn descend(
     if depth == 0 {
         return Ok(root);
     }
-    let up = descend(memory, root, depth - 1, index / FAN)?;
-    let bytes = load(memory, up)?;
+    let Some(up) = descend(memory, root, depth - 1, index / FAN)? else {
+        return Ok(None);
+    };
+    let bytes = read_block(memory, up.block)?;
     Ok(decode(bytes, (index % FAN) as usize))
 }
 

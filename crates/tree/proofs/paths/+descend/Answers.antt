@@ -1,16 +1,19 @@
-use Rattle.std.proofs.Common.{arith}
+use Rattle.std.proofs.Common.{sym, refl, ◌∙◌, arith}
 use Rattle.std.proofs.lemmas.Result.{err_from_is_err_and}
-use Rattle.tree.proofs.Walks.{root_is, below, lost_up, lost_here}
+use Rattle.tree.proofs.Walks.{root_is, below, below_hole, lost_up, lost_here}
 use Rattle.tree.proofs.paths.+descend.Goals as goal
 
 pub returns-then-depth-eq0 : goal.returns-then-depth-eq0
 returns-then-depth-eq0 t c = record { found = root_is _ _ _ _ c.if-depth-eq0.true }
 
+pub returns-in_default : goal.returns-in_default
+returns-in_default t c = record { found = below_hole _ _ _ _ (omega arith) (sym c.in_default.is ∙ c.in_ok-up.ensures.found) }
+
 pub returns : goal.returns
 returns t c = record {
   found =
-      below _ _ _ _ c.args.index _ _ _ (omega arith) (omega arith) c.in_ok-up.ensures.found
-      c.in_ok-bytes.ensures.loaded c.decode.ensures.value;
+      below _ _ _ _ c.args.index _ _ _ (omega arith) (omega arith) (sym c.in-Some.is ∙ c.in_ok-up.ensures.found)
+      c.in_ok-bytes.ensures.read c.decode.ensures.value;
 }
 
 pub returns-in_err-up : goal.returns-in_err-up
@@ -22,5 +25,5 @@ returns-in_err-up t c =
 pub returns-in_err-bytes : goal.returns-in_err-bytes
 returns-in_err-bytes t c =
     let p = err_from_is_err_and c.from_residual-in_err-bytes.result c.from_residual-in_err-bytes.ensures.1 in
-    let o = c.in_err-bytes.ensures.loaded in
-    rw (p.1, p.2) (record { found = (o.0, lost_here _ _ _ _ _ (omega arith) c.in_ok-up.ensures.found o.1) })
+    let o = c.in_err-bytes.ensures.read in
+    rw (p.1, p.2) (record { found = (o.0, lost_here _ _ _ _ _ (omega arith) (sym c.in-Some.is ∙ c.in_ok-up.ensures.found) (c.in-Some.up, refl, o.1)) })
