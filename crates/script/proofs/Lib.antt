@@ -5,4 +5,3 @@ pub mod Puts
 pub mod Readings
 pub mod Runs
 pub mod Splits
-pub mod Turns

@@ -1,6 +1,7 @@
 -- The next line of a console, from what its parts answer.
 use Rattle.std.proofs.Common.{◌≡◌, ℕ, ◌+◌, List, [], Ok, Err, Result, sym, ap, ◌∙◌, subst}
 use Rattle.std.specs.Result as results
+use Rattle.faults.specs.declared.Fault.{Fault}
 use Rattle.faults.specs.declared.Layer.{Layer}
 use Rattle.faults.specs.declared.Layer.TheVariants.{Script}
 use Rattle.faults.specs.declared.ScriptCause.{ScriptCause}
@@ -8,6 +9,7 @@ use Rattle.faults.specs.declared.ScriptCause.TheVariants.{Size, Letter}
 use Rattle.model.specs.Steps.{nothing_moved}
 use Rattle.model.specs.declared.Changed.{Changed}
 use Rattle.script.specs.Consoles.{Console, FirstLine, NamesAllocator, TooLong, Answered, named, unnamed, Next, too_long, line, ended, past, told}
+use Rattle.script.specs.Shown.{shown, shown_fault}
 
 -- what the first line answers, and the console after it
 abbrev pub FirstAnswer : Console → List ℕ → Result Changed Layer → Console → Type 0
@@ -17,10 +19,6 @@ FirstAnswer c bs r d =
 pub first_answered : (c : Console) (bs : List ℕ) (r : Result Changed Layer) (d : Console) → c.read ≡ 1 → FirstAnswer c bs r d → Answered c bs r d
 first_answered c bs (Ok a) d one (names, is, same) = subst (λ x. Answered c bs (Ok x) d) (sym is) (subst (Answered c bs (Ok nothing_moved)) (sym same) (named one names))
 first_answered c bs (Err l) d one (not, is, over) = subst (λ x. Answered c bs (Err x) d) (sym is) (subst (Answered c bs (Err (Script Letter))) (sym over) (unnamed one not))
-
-pub first_read : (c : Console) (bs : List ℕ) (r : Result Changed Layer) (d : Console) → FirstAnswer c bs r d → d.read ≡ c.read
-first_read c bs (Ok a) d (_, _, same) = ap (λ (x : Console). x.read) same
-first_read c bs (Err l) d (_, _, over) = ap (λ (x : Console). x.read) over
 
 -- a script that is too long
 pub too_long_next : (c d : Console) (bs : List ℕ) (cause : ScriptCause) → cause ≡ Size → TooLong c.rest → d.rest ≡ [] → d.read ≡ c.read → d.pool ≡ c.pool
@@ -37,3 +35,10 @@ line_next c m d bs out r n short first counted pool answered under shows =
     let on : m ≡ past c m.rest =
     ap (λ k. record { rest = m.rest; read = k; pool = m.pool }) counted ∙ ap (λ p. record { rest = m.rest; read = c.read + 1; pool = p }) pool in
     subst (λ x. Next c x d) (sym (shows ∙ ap (λ k. told k r) (under ∙ counted))) (line short first (subst (λ x. Answered x bs r d) on answered))
+
+-- an answer under the number of its line
+pub mapped_shows : (n : ℕ) (r : Result Changed Layer) (s : Result Changed Fault) (P : Layer → Fault → Type 0) → results.MatchResult r (λ a. s ≡ Ok a) (λ l. results.IsErrAnd s (P l))
+    → ((l : Layer) (f : Fault) → P l f → f ≡ record { layer = l; line = n }) → shown s ≡ told n r
+mapped_shows n (Ok a) s P is under = ap shown is
+mapped_shows n (Err l) (Err f) P is under = ap shown_fault (under l f is)
+mapped_shows n (Err l) (Ok a) P is under = absurd is

@@ -1,6 +1,5 @@
 -- Parts that are one word, two or more, and the line that two numbers make.
-use Rattle.std.proofs.Common.{◌≡◌, ℕ, ◌+◌, ◌-◌, ◌≤◌, List, [], ◌∷◌, ◌++◌, length, get_or, take, drop, Some, None, decimal, Option, sym, refl, ap, ◌∙◌, subst, append_assoc, arith}
-use Rattle.std.proofs.lemmas.List.{take_rest}
+use Rattle.std.proofs.Common.{◌≡◌, ℕ, ◌+◌, List, [], ◌∷◌, ◌++◌, length, Some, None, decimal, Option, sym, refl, ap, ◌∙◌, subst, append_assoc, arith}
 use Rattle.model.specs.Questions.{AllYes}
 use Rattle.model.specs.declared.Call.TheVariants.{Create}
 use Rattle.script.specs.Lines.{Each, line_questions, call_text}
@@ -9,7 +8,7 @@ use Rattle.script.specs.Words.{words, Numeral, IsWord, TwoWords}
 use Rattle.script.specs.declared.parts.Part.{Part}
 use Rattle.script.specs.declared.words.Word.{Word}
 use Rattle.script.specs.declared.words.Word.TheVariants.{Number}
-use Rattle.script.proofs.Splits.{words_some, cut_ends, cut_whole, cut_more}
+use Rattle.script.proofs.Splits.{words_some, cut_whole, cut_more}
 
 pub one_word : (bs : List ℕ) (at : ℕ) (front : Part) (back : Option Part) → Cut 32 bs at front back → back ≡ None → length (words bs) ≡ 2 → ⊥
 one_word bs at front back cut none two =
@@ -19,9 +18,6 @@ one_word bs at front back cut none two =
 module _ (bs : List ℕ) (at : ℕ) (front : Part) (rest : Option Part) (more : Part) (cut : Cut 32 bs at front rest) (some_rest : rest ≡ Some more) where
   first_cut : Cut 32 bs at front (Some more)
   first_cut = subst (Cut 32 bs at front) some_rest cut
-
-  pub still_inside : more.at + length more.bytes.now ≡ at + length bs
-  still_inside = cut_ends 32 bs at front more first_cut
 
   module _ (second : Part) (back : Option Part) (cut' : Cut 32 more.bytes.now more.at second back) where
     pub three_words : (last : Part) → back ≡ Some last → length (words bs) ≡ 2 → ⊥
@@ -53,15 +49,3 @@ create_read bs at v w n h p q two v-is w-is =
       ((99, bs, 3, refl, refl), (ap Some three, (subst (Each Numeral) (sym two.are) ((n, first), ((h, second), tt)), tt))),
       ap (λ l. 99 ∷ 32 ∷ l) (two.joined ∙ ap (λ l. l ++ (32 ∷ two.second)) first.1 ∙ ap (λ l. decimal n ++ (32 ∷ l)) second.1 ∙ sym (append_assoc (decimal n) (32 ∷ []) (decimal h))),
     )
-
--- a slice by its first two bytes
-pub opens : (xs : List ℕ) (a b : ℕ) → 2 ≤ length xs → get_or xs 0 0 ≡ a → get_or xs 1 0 ≡ b → xs ≡ a ∷ b ∷ take (length xs - 2) (drop 2 xs)
-opens [] a b h p q = absurd (omega arith)
-opens (x ∷ []) a b h p q = absurd (omega arith)
-opens (x ∷ y ∷ rest) a b h p q = rw (p, q) (ap (λ l. a ∷ b ∷ l) (sym (take_rest (x ∷ y ∷ rest) 2)))
-
--- a slice of one byte
-pub only : (xs : List ℕ) (a : ℕ) → length xs ≡ 1 → get_or xs 0 0 ≡ a → xs ≡ a ∷ []
-only [] a h e = absurd (omega arith)
-only (x ∷ []) a h e = ap (λ y. y ∷ []) e
-only (x ∷ y ∷ xs) a h e = absurd (omega arith)

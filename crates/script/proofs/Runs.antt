@@ -1,12 +1,9 @@
 -- Line after line of what a console prints.
-use Rattle.std.proofs.Common.{◌≡◌, ℕ, ◌+◌, ◌<◌, ◌≤◌, List, [], ◌∷◌, ◌++◌, length, Ok, Err, Result, sym, ap, ◌∙◌, subst, inl, inr, append_assoc, arith}
+use Rattle.std.proofs.Common.{ℕ, ◌<◌, ◌≤◌, List, ◌∷◌, ◌++◌, length, Result, sym, ap, ◌∙◌, subst, inl, inr, append_assoc, arith}
 use Rattle.std.proofs.lemmas.List.{length-append}
 use Rattle.faults.specs.declared.Layer.{Layer}
-use Rattle.faults.specs.declared.Layer.TheVariants.{Script}
-use Rattle.faults.specs.declared.ScriptCause.TheVariants.{Size}
 use Rattle.model.specs.declared.Changed.{Changed}
-use Rattle.script.specs.Consoles.{Console, FirstLine, Answered, named, unnamed, later, Next, too_long, line, Prints, none, more, told}
-use Rattle.script.specs.Sessions.{PrintsNext}
+use Rattle.script.specs.Consoles.{Console, FirstLine, Answered, named, unnamed, later, Next, too_long, line, Prints, more}
 
 -- a line takes a byte at least
 first_shorter : (bs l rest : List ℕ) → FirstLine bs l rest → length rest < length bs
@@ -23,24 +20,6 @@ answered_rest c bs _ _ (later _ _) = omega arith
 pub shorter : (c : Console) (bs : List ℕ) (d : Console) → Next c bs d → length d.rest < length c.rest
 shorter c _ _ (too_long long) = omega arith
 shorter c _ d (line {line = l} {rest = rest} {r = r} _ first answered) = omega (arith, first_shorter _ _ _ first, answered_rest _ _ _ _ answered)
-
--- what was printed has a byte, so there was a line
-pub a_line : (c : Console) (bs : List ℕ) (d : Console) → 1 ≤ length bs → PrintsNext c bs d → Next c bs d
-a_line c bs d some (inl next) = next
-a_line c bs d some (inr (_, e, _)) = absurd (omega (arith, ap length e))
-
--- nothing was printed, so the console is over
-told_some : (n : ℕ) (r : Result Changed Layer) → 1 ≤ length (told n r)
-told_some n (Ok a) = omega arith
-told_some n (Err l) = omega arith
-
-next_some : (c : Console) (bs : List ℕ) (d : Console) → Next c bs d → 1 ≤ length bs
-next_some c _ _ (too_long _) = told_some 0 (Err (Script Size))
-next_some c _ d (line {r = r} _ _ _) = told_some (c.read + 1) r
-
-pub no_line : (c : Console) (bs : List ℕ) (d : Console) → bs ≡ [] → PrintsNext c bs d → Prints c []
-no_line c bs d nothing (inl next) = absurd (omega (arith, next_some c bs d next, ap length nothing))
-no_line c bs d nothing (inr (over, _, _)) = none over
 
 -- a line more of all that is printed
 pub printed_more : (c d : Console) (all : List ℕ → Type 0) (out bs : List ℕ) → ((rest : List ℕ) → Prints c rest → all (out ++ rest)) → Next c bs d

@@ -1,17 +1,9 @@
 -- Bytes cut at a separator, and the words between the spaces.
-use Rattle.std.proofs.Common.{◌≡◌, ℕ, suc, ◌+◌, ◌<◌, ◌≤◌, eqb, List, [], ◌∷◌, ◌++◌, length, get_or, take, drop, Some, None, sym, refl, ap, ◌∙◌, add-one, arith, take-append-drop, drop-cons, ne_eqb}
-use Rattle.std.proofs.lemmas.List.{length-append, length-take-le, get_or-take}
+use Rattle.std.proofs.Common.{◌≡◌, ℕ, suc, ◌≤◌, eqb, List, [], ◌∷◌, ◌++◌, length, Some, None, refl, ap, ◌∙◌, arith, ne_eqb}
 use Rattle.std.proofs.lemmas.Bool.{cond_both}
-use Rattle.script.specs.Parts.{Without, Splits, Cut}
+use Rattle.script.specs.Parts.{Without, Cut}
 use Rattle.script.specs.declared.parts.Part.{Part}
 use Rattle.script.specs.Words.{words, onto}
-
--- the first b stands at i
-pub splits_at : (b : ℕ) (bs : List ℕ) (i : ℕ) → i < length bs → get_or bs i 0 ≡ b → ((k : ℕ) → k < i → get_or bs k 0 ≡ b → ⊥) → Splits b bs (take i bs) (Some (drop (i + 1) bs))
-splits_at b bs i lt here before = (
-  λ k h e. let short : k < i = omega (arith, length-take-le i bs (omega arith)) in before k short (sym (get_or-take i bs k 0 short) ∙ e),
-  sym (take-append-drop i bs) ∙ ap (λ l. take i bs ++ l) (drop-cons bs i 0 lt ∙ ap (λ x. x ∷ drop (suc i) bs) here ∙ ap (λ n. b ∷ drop n bs) (sym (add-one i))),
-)
 
 -- the words of bytes that are one word, and of bytes that go on after a space
 pub words_one : (w : List ℕ) → Without 32 w → words w ≡ w ∷ []
@@ -29,11 +21,6 @@ words_some (b ∷ bs) = let rest = words_some bs in cond_both (eqb b 32) _ _ (λ
     onto_some : (b : ℕ) (ws : List (List ℕ)) → 1 ≤ length (onto b ws)
     onto_some b [] = omega arith
     onto_some b (w ∷ ws) = omega arith
-
--- what follows a cut ends where the bytes end
-pub cut_ends : (b : ℕ) (bs : List ℕ) (at : ℕ) (front back : Part) → Cut b bs at front (Some back) → back.at + length back.bytes.now ≡ at + length bs
-cut_ends b bs at front back (split, _, after) =
-    let whole = ap length split.1 ∙ length-append front.bytes.now (b ∷ back.bytes.now) in omega arith
 
 -- the words of bytes that are cut at a space
 pub cut_whole : (bs : List ℕ) (at : ℕ) (front : Part) → Cut 32 bs at front None → words bs ≡ front.bytes.now ∷ []

@@ -2,12 +2,10 @@
 --     Buffer n                    a buffer of n bytes is long enough for every answer
 --     Put before after at n bs    the bytes bs were written to a buffer, from `at` on and up to n
 --     shown a                     the line that shows the answer a
-use Rattle.std.specs.Prelude.{◌≡◌, ℕ, ◌+◌, ◌≤◌, List, [], ◌∷◌, ◌++◌, length, take, drop, codes, decimal}
+use Rattle.std.specs.Prelude.{◌≡◌, ℕ, ◌+◌, ◌≤◌, List, [], ◌∷◌, ◌++◌, length, take, drop, Ok, Err, codes, decimal, Result}
 use Rattle.faults.specs.Numbers.{fault_number, fault_letter}
 use Rattle.faults.specs.declared.Fault.{Fault}
 use Rattle.model.specs.declared.Changed.{Changed}
-use Rattle.script.specs.declared.answers.Answer.{Answer}
-use Rattle.script.specs.declared.answers.Answer.TheVariants.{Changed as Granted, Refused}
 
 -- a buffer has at least 80 bytes
 abbrev pub Buffer : ℕ → Type 0
@@ -35,6 +33,6 @@ shown_change c = codes "ok " ++ decimal c.taken ++ space ++ decimal c.given ++ n
 abbrev pub shown_fault : Fault → List ℕ
 shown_fault f = codes "no " ++ decimal (fault_number f.layer) ++ space ++ (fault_letter f.layer ∷ []) ++ space ++ decimal f.line ++ newline
 
-abbrev pub shown : Answer → List ℕ
-shown (Granted c) = shown_change c
-shown (Refused f) = shown_fault f
+abbrev pub shown : Result Changed Fault → List ℕ
+shown (Ok c) = shown_change c
+shown (Err f) = shown_fault f

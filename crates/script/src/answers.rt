@@ -1,89 +1,82 @@
 // The lines that answers print.
 ghost use Rattle.std.specs.Prelude.{◌≡◌, ◌+◌, ◌≤◌, length, decimal};
-ghost use Rattle.script.specs.Consoles.{told};
 ghost use Rattle.script.specs.Shown.{Put, Buffer, shown, shown_change, shown_fault};
 
-use faults::{Fault, Layer};
+use faults::Fault;
 use model::Changed;
 
-// What a line answers.
-#[derive(Clone, Copy)]
-pub enum Answer {
-    // A granted change, with its counts.
-    Changed(Changed),
-    // A refusal.
-    Refused(Fault),
-}
-
-impl Answer {
-    // The answer to that line.
-    pub fn of(answer: Result<Changed, Layer>, line: u32) -> Answer
-        ensures value { shown result ≡ told line answer }
-    {
-        match answer {
-            Ok(changed) => Answer::Changed(changed),
-            Err(layer) => Answer::Refused(layer.on_line(line)),
-        }
-    }
-
-    // Writes the answer's line at the start of the buffer, and says how long it is.
-    pub fn print(self, out: &mut [u8]) -> usize
-        requires { Buffer (length out.old) }
-        ensures wrote { Put out.old out.new 0 result (shown self) }
-    {
-        match self {
-            Answer::Changed(changed) => put_change(out, changed),
-            Answer::Refused(fault) => put_fault(out, fault),
-        }
-    }
-}
-
-// Writes the bytes at a place, and says where they end.
-fn put(out: &mut [u8], at: usize, bytes: &[u8]) -> usize
-    requires { at + length bytes.now ≤ length out.old }
-    ensures wrote { Put out.old out.new at result bytes.now }
-{
-    let end = at + bytes.len();
-    out[at..end].copy_from_slice(bytes);
-    end
-}
-
-// Writes a number in decimal at a place, and says where it ends.
-fn put_number(out: &mut [u8], at: usize, n: u32) -> usize
-    requires { at + 10 ≤ length out.old }
-    ensures bound { result ≤ at + 10 }
-    ensures wrote { Put out.old out.new at result (decimal n) }
-{
-    let digit = b'0' + (n % 10) as u8;
-    if n < 10 {
-        return put(out, at, &[digit]);
-    }
-    let end = put_number(out, at, n / 10);
-    put(out, end, &[digit])
-}
-
-// Writes `ok TAKEN GIVEN`.
-fn put_change(out: &mut [u8], changed: Changed) -> usize
+// Writes the answer's line at the start of the buffer, and says how long it is.
+pub fn print(answer: Result<Changed, Fault>, out: &mut [u8]) -> usize
     requires { Buffer (length out.old) }
-    ensures wrote { Put out.old out.new 0 result (shown_change changed) }
+    ensures wrote { Put out.old out.new 0 result (shown answer) }
 {
-    let at = put(out, 0, b"ok ");
-    let at = put_number(out, at, changed.taken);
-    let at = put(out, at, b" ");
-    let at = put_number(out, at, changed.given);
-    put(out, at, b"\n")
+    let mut line = Line { out, end: 0 };
+    match answer {
+        Ok(changed) => line.push_change(changed),
+        Err(fault) => line.push_fault(fault),
+    }
+    line.end
 }
 
-// Writes `no NUMBER LAYER LINE`.
-fn put_fault(out: &mut [u8], fault: Fault) -> usize
-    requires { Buffer (length out.old) }
-    ensures wrote { Put out.old out.new 0 result (shown_fault fault) }
-{
-    let at = put(out, 0, b"no ");
-    let at = put_number(out, at, u32::from(fault.layer.number()));
-    let at = put(out, at, b" ");
-    let at = put(out, at, &[fault.layer.letter()]);
-    let at = put(out, at, b" ");
-    let at = put_number(out, at, fault.line);
-    put(out, at, b"\n")
+// A line at the start of a lent buffer. It is not written by `write!`, whose contract does not promise that it is Ok.
+#[derive(Drop)]
+struct Line<'o> {
+    out: &'o mut [u8],
+    end: usize,
+}
+
+impl Line<'_> {
+    // Adds the bytes.
+    fn push(&mut self, bytes: &[u8])
+        requires { self.old.end + length bytes.now ≤ length self.old.out.now }
+        ensures same_reference { self.new.out.ghost_name ≡ self.old.out.ghost_name }
+        ensures room { length self.new.out.now ≡ length self.old.out.now }
+        ensures wrote { Put self.old.out.now self.new.out.now self.old.end self.new.end bytes.now }
+    {
+        let end = self.end + bytes.len();
+        self.out[self.end..end].copy_from_slice(bytes);
+        self.end = end;
+    }
+
+    // Adds the number in decimal.
+    fn push_number(&mut self, n: u32)
+        requires { self.old.end + 10 ≤ length self.old.out.now }
+        ensures same_reference { self.new.out.ghost_name ≡ self.old.out.ghost_name }
+        ensures room { length self.new.out.now ≡ length self.old.out.now }
+        ensures bound { self.new.end ≤ self.old.end + 10 }
+        ensures wrote { Put self.old.out.now self.new.out.now self.old.end self.new.end (decimal n) }
+    {
+        let mut digits = itoa::Buffer::new();
+        self.push(digits.format(n).as_bytes());
+    }
+
+    // Adds `ok TAKEN GIVEN`.
+    fn push_change(&mut self, changed: Changed)
+        requires { self.old.end + 80 ≤ length self.old.out.now }
+        ensures same_reference { self.new.out.ghost_name ≡ self.old.out.ghost_name }
+        ensures room { length self.new.out.now ≡ length self.old.out.now }
+        ensures wrote { Put self.old.out.now self.new.out.now self.old.end self.new.end (shown_change changed) }
+    {
+        self.push(b"ok ");
+        self.push_number(changed.taken);
+        self.push(b" ");
+        self.push_number(changed.given);
+        self.push(b"\n");
+    }
+
+    // Adds `no NUMBER LAYER LINE`.
+    fn push_fault(&mut self, fault: Fault)
+        requires { self.old.end + 80 ≤ length self.old.out.now }
+        ensures same_reference { self.new.out.ghost_name ≡ self.old.out.ghost_name }
+        ensures room { length self.new.out.now ≡ length self.old.out.now }
+        ensures wrote { Put self.old.out.now self.new.out.now self.old.end self.new.end (shown_fault fault) }
+    {
+        self.push(b"no ");
+        self.push_number(u32::from(fault.layer.number()));
+        self.push(b" ");
+        self.push(&[fault.layer.letter()]);
+        self.push(b" ");
+        self.push_number(fault.line);
+        self.push(b"\n");
+    }
 }

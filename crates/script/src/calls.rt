@@ -1,5 +1,5 @@
 // The calls that lines write.
-ghost use Rattle.std.specs.Prelude.{◌≡◌, ◌+◌, ◌^◌, ◌<◌, ◌∷◌, length, MatchResult};
+ghost use Rattle.std.specs.Prelude.{◌≡◌, ◌∷◌, MatchResult};
 ghost use Rattle.faults.specs.declared.Layer.TheVariants.{Script};
 ghost use Rattle.model.specs.Questions.{AllYes, FirstNo};
 ghost use Rattle.script.specs.Lines.{line_questions, call_text};
@@ -11,7 +11,6 @@ use model::Call;
 
 // The call that a line writes: its letter, one space, and the words that the letter wants.
 pub fn read_call(line: Part<'_>) -> Result<Call, ScriptCause>
-    requires { line.at + length line.bytes.now < 2 ^ 64 }
     ensures cases { MatchResult result (λ c. AllYes (line_questions line.entry.bytes.now) × (line.entry.bytes.now ≡ call_text c)) (λ c. FirstNo (line_questions line.entry.bytes.now) (Script c)) }
 {
     let [letter, b' ', rest @ ..] = line.bytes else {
@@ -29,13 +28,9 @@ pub fn read_call(line: Part<'_>) -> Result<Call, ScriptCause>
 
 // The rest of a line that creates a dataset: its number and its height.
 fn read_create(rest: Part<'_>) -> Result<Call, ScriptCause>
-    requires { rest.at + length rest.bytes.now < 2 ^ 64 }
     ensures cases { MatchResult result (λ c. AllYes (line_questions (99 ∷ 32 ∷ rest.entry.bytes.now)) × (99 ∷ 32 ∷ rest.entry.bytes.now ≡ call_text c)) (λ c. FirstNo (line_questions (99 ∷ 32 ∷ rest.entry.bytes.now)) (Script c)) }
 {
-    let Some((number, height)) = two_words(rest) else {
-        return Err(ScriptCause::WordCount);
-    };
-    match (number, height) {
+    match two_words(rest).ok_or(ScriptCause::WordCount)? {
         (Word::Number { value: number, .. }, Word::Number { value: height, .. }) => {
             Ok(Call::Create { number, height })
         }

@@ -1,40 +1,31 @@
 // The lines of a script, in turn.
-ghost use Rattle.std.specs.Prelude.{◌≡◌, ◌+◌, ◌^◌, ◌<◌, [], length, IfSome, MatchOption, MatchResult, OnSome, nat_lt};
-ghost use Rattle.faults.specs.declared.ScriptCause.TheVariants.{Size};
-ghost use Rattle.script.specs.Consoles.{FirstLine, TooLong};
-ghost use Rattle.script.specs.Sessions.{CountedWell, rest_of};
+ghost use Rattle.std.specs.Prelude.{◌≡◌, ◌+◌, ◌≤◌, min, [], length};
 
-use crate::parts::{Part, cut};
+use crate::parts::Part;
 use faults::ScriptCause;
 
 // The most bytes that a script has.
 pub const LONGEST_SCRIPT: usize = 32768;
 
-// Are so many bytes more than a script may have?
-fn too_long(left: usize) -> bool
-    ensures value { result ≡ nat_lt 32768 left }
-{
-    left > LONGEST_SCRIPT
-}
-
 #[derive(Drop)]
 pub struct Lines<'s> {
-    script: &'s [u8],
-    // The place of what is still to be read.
-    at: usize,
+    // What is still to be read.
+    rest: Part<'s>,
     // How many lines were read.
     pub read: u32,
+    // Each of them had a byte, of a script that is not too long: of one that is, none was read.
+    ghost counted: { read + min (length rest.bytes.now) 32768 ≤ 32768 },
 }
 
 impl<'s> Lines<'s> {
-    pub fn of(script: &'s [u8]) -> Lines<'s>
+    ghost use Rattle.script.specs.Sessions.{rest_of};
+
+    pub fn new(script: &'s [u8]) -> Lines<'s>
         ensures rest { rest_of result ≡ script.now }
         ensures read { result.read ≡ 0 }
-        ensures counted { CountedWell result }
     {
         Lines {
-            script,
-            at: 0,
+            rest: Part::from(script),
             read: 0,
         }
     }
@@ -43,42 +34,33 @@ impl<'s> Lines<'s> {
     pub fn stop(&mut self)
         ensures rest { rest_of self.new ≡ [] }
         ensures read { self.new.read ≡ self.old.read }
-        ensures counted { CountedWell self.old → CountedWell self.new }
     {
-        self.at = self.at.max(self.script.len());
+        self.rest = self.rest.end();
     }
+}
 
-    // Refuses to read more than a script may have.
-    pub fn check_length(&mut self) -> Result<(), ScriptCause>
-        ensures cases { MatchResult result (λ _. (TooLong (rest_of self.old) → ⊥) × (self.new ≡ self.old)) (λ c. (c ≡ Size) × TooLong (rest_of self.old) × (rest_of self.new ≡ []) × (self.new.read ≡ self.old.read)) }
-        ensures counted { CountedWell self.old → CountedWell self.new }
-    {
-        if too_long(self.script.len().saturating_sub(self.at)) {
-            self.stop();
-            return Err(ScriptCause::Size);
-        }
-        Ok(())
-    }
+// The next line; an error once, and then no more, where more is left than a script may have.
+impl<'s> Iterator for Lines<'s> {
+    ghost use Rattle.std.specs.Iterator.{item_count};
+    ghost use Rattle.script.specs.Sessions.{Reads, rest_of};
 
-    // The next line, or nothing where all is read.
-    pub fn next_line(&mut self) -> Option<Part<'s>>
-        ensures within { IfSome result (λ p. p.at + length p.bytes.now < 2 ^ 64) }
-        ensures cases { MatchOption result ((rest_of self.old ≡ []) × (self.new ≡ self.old)) (λ p. FirstLine (rest_of self.old) p.bytes.now (rest_of self.new)) }
-        ensures counted { OnSome result (CountedWell self.old → (TooLong (rest_of self.old) → ⊥) → CountedWell self.new × (self.new.read ≡ self.old.read + 1)) }
-    {
-        if self.at >= self.script.len() {
+    type Item = Result<Part<'s>, ScriptCause>;
+
+    ghost remaining = { item_count rest_of };
+
+    ghost next_gives = { Reads };
+
+    fn next(&mut self) -> Option<Result<Part<'s>, ScriptCause>> {
+        if self.rest.bytes.is_empty() {
             return None;
         }
-        let rest = Part {
-            bytes: &self.script[self.at..],
-            at: self.at,
-        };
-        let (line, more) = cut(rest, b'\n');
-        self.at = match more {
-            Some(next) => next.at,
-            None => self.script.len(),
-        };
-        self.read = self.read.saturating_add(1);
-        Some(line)
+        if self.rest.bytes.len() > LONGEST_SCRIPT {
+            self.stop();
+            return Some(Err(ScriptCause::Size));
+        }
+        let (line, more) = self.rest.cut(b'\n');
+        self.rest = more.unwrap_or(self.rest.end());
+        self.read += 1;
+        Some(Ok(line))
     }
 }

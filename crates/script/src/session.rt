@@ -1,19 +1,19 @@
 // A console in the middle of its script.
-ghost use Rattle.std.specs.Prelude.{◌≡◌, ℕ, ◌+◌, ◌^◌, ◌<◌, ◌≤◌, List, length, take, drop, MatchOption, MatchResult};
+ghost use Rattle.std.specs.Prelude.{◌≡◌, ℕ, ◌≤◌, List, length, take, drop, IfErr, IfOk, MatchOption, MatchResult};
 ghost use Rattle.faults.specs.declared.Layer.TheVariants.{Script};
 ghost use Rattle.faults.specs.declared.ScriptCause.TheVariants.{Size, Letter};
 ghost use Rattle.model.specs.Soundness.{Sound};
 ghost use Rattle.model.specs.Steps.{Step, nothing_moved};
 ghost use Rattle.pool.specs.Pools.{state_of};
 ghost use Rattle.script.specs.Consoles.{Answered, FirstLine, Names, NamesAllocator, Next, Obeyed, Over, ended, opened};
-ghost use Rattle.script.specs.Sessions.{NewAllocator, PrintsNext, Ready, console_of};
+ghost use Rattle.script.specs.Sessions.{NewAllocator, Ready, console_of};
 ghost use Rattle.script.specs.Shown.{Buffer, shown};
 
-use crate::answers::Answer;
+use crate::answers::print;
 use crate::calls::read_call;
 use crate::lines::Lines;
-use crate::parts::{Part, cut};
-use faults::{Layer, ScriptCause};
+use crate::parts::Part;
+use faults::{Fault, Layer, ScriptCause};
 use makes::{AnyAllocator, Make};
 use model::{Call, Changed};
 use pool::Pool;
@@ -48,16 +48,20 @@ pub struct Session<'s, 'm> {
 }
 
 // The make that a first line names.
-fn name_allocator(line: &[u8]) -> Result<Make, ScriptCause>
-    ensures cases { MatchResult result (λ m. Names line.now m) (λ c. (c ≡ Letter) × (NamesAllocator line.now → ⊥)) }
-{
-    let [letter] = line else {
-        return Err(ScriptCause::Letter);
-    };
-    match char::from(*letter) {
-        'b' => Ok(Make::Bits),
-        'm' => Ok(Make::Ranges),
-        _ => Err(ScriptCause::Letter),
+impl TryFrom<Part<'_>> for Make {
+    type Error = ScriptCause;
+
+    ghost try_from_gives = { λ line named. MatchResult named (Names line.bytes.now) (λ c. (c ≡ Letter) × (NamesAllocator line.bytes.now → ⊥)) };
+
+    fn try_from(line: Part<'_>) -> Result<Make, ScriptCause> {
+        let [letter] = line.bytes else {
+            return Err(ScriptCause::Letter);
+        };
+        match char::from(*letter) {
+            'b' => Ok(Make::Bits),
+            'm' => Ok(Make::Ranges),
+            _ => Err(ScriptCause::Letter),
+        }
     }
 }
 
@@ -65,15 +69,8 @@ fn name_allocator(line: &[u8]) -> Result<Make, ScriptCause>
 fn first_make(script: &[u8]) -> Make
     ensures named { (line rest : List ℕ) (m : Make) → FirstLine script.now line rest → Names line m → result ≡ m }
 {
-    let whole = Part {
-        bytes: script,
-        at: 0,
-    };
-    let (line, _) = cut(whole, b'\n');
-    match name_allocator(line.bytes) {
-        Ok(make) => make,
-        Err(_) => Make::Bits,
-    }
+    let (line, _) = Part::from(script).cut(b'\n');
+    Make::try_from(line).unwrap_or(Make::Bits)
 }
 
 // Has the pool do what a call says.
@@ -88,7 +85,6 @@ fn perform(pool: &mut Pool<'_>, call: Call) -> Result<Changed, Layer>
 
 // What a later line answers: the pool does what it says.
 fn obey(pool: &mut Pool<'_>, line: Part<'_>) -> Result<Changed, Layer>
-    requires { line.at + length line.bytes.now < 2 ^ 64 }
     ensures obeyed { Sound (state_of pool.old) → Obeyed (state_of pool.old) line.entry.bytes.now result (state_of pool.new) }
     ensures sound { Sound (state_of pool.old) → Sound (state_of pool.new) }
 {
@@ -105,21 +101,24 @@ impl<'s, 'm> Session<'s, 'm> {
     {
         let Memory { rows, bits, ranges } = memory;
         let Ok(pool) = Pool::format(rows) else {
-            unreachable()
+            unreachable!()
         };
-        let (allocator, made) = AnyAllocator::new(first_make(script), BLOCKS, bits, ranges);
-        let _ = made;
+        let (allocator, Ok(())) = AnyAllocator::new(first_make(script), BLOCKS, bits, ranges) else {
+            unreachable!()
+        };
         Session {
-            lines: Lines::of(script),
+            lines: Lines::new(script),
             pool,
             allocator,
         }
     }
 
-    // Writes the next line that the script prints at the start of the buffer, and says how long it is: 0 where the
-    // script is over.
-    pub fn print_next(&mut self, out: &mut [u8]) -> Result<usize, ScriptCause>
-        ensures cases { MatchResult result (λ n. Buffer (length out.old) × (n ≤ length out.old) × (Ready self.old → PrintsNext (console_of self.old) (take n out.new) (console_of self.new)) × (drop n out.new ≡ drop n out.old)) (λ c. (c ≡ Size) × (Buffer (length out.old) → ⊥) × (self.new ≡ self.old) × (out.new ≡ out.old)) }
+    // Writes the next line that the script prints at the start of the buffer, and says how long it is; or nothing where
+    // the script is over.
+    pub fn print_next(&mut self, out: &mut [u8]) -> Result<Option<usize>, ScriptCause>
+        ensures printed { Ready self.old → IfOk result (λ p. MatchOption p (Over (console_of self.old) × (console_of self.new ≡ console_of self.old)) (λ n. Next (console_of self.old) (take n out.new) (console_of self.new))) }
+        ensures written { IfOk result (λ p. Buffer (length out.old) × MatchOption p (out.new ≡ out.old) (λ n. (n ≤ length out.old) × (drop n out.new ≡ drop n out.old))) }
+        ensures short { IfErr result (λ c. (c ≡ Size) × (Buffer (length out.old) → ⊥) × (self.new ≡ self.old) × (out.new ≡ out.old)) }
         ensures ready { Ready self.old → Ready self.new }
         ensures allocator { self.new.allocator ≡ self.old.allocator }
     {
@@ -127,55 +126,52 @@ impl<'s, 'm> Session<'s, 'm> {
             return Err(ScriptCause::Size);
         }
         match self.answer_next() {
-            Some(answer) => Ok(answer.print(out)),
-            None => Ok(0),
+            Some(answer) => Ok(Some(print(answer, out))),
+            None => Ok(None),
         }
     }
 
     // What the next line answers, or nothing where no more is read.
-    fn answer_next(&mut self) -> Option<Answer>
+    fn answer_next(&mut self) -> Option<Result<Changed, Fault>>
         ensures cases { Ready self.old → MatchOption result (Over (console_of self.old) × (console_of self.new ≡ console_of self.old)) (λ a. Next (console_of self.old) (shown a) (console_of self.new)) }
         ensures ready { Ready self.old → Ready self.new }
         ensures allocator { self.new.allocator ≡ self.old.allocator }
     {
-        if let Err(cause) = self.lines.check_length() {
-            return Some(Answer::of(Err(Layer::Script(cause)), 0));
-        }
-        match self.lines.next_line() {
-            Some(line) => {
+        let answer = match self.lines.next()? {
+            Ok(line) => {
                 let answer = self.answer_line(line);
-                Some(Answer::of(answer, self.lines.read))
+                answer.map_err(|layer| layer.on_line(self.lines.read))
             }
-            None => None,
-        }
+            Err(cause) => Err(Layer::from(cause).on_line(0)),
+        };
+        Some(answer)
     }
 
     // What that line answers, which was just read.
     fn answer_line(&mut self, line: Part<'_>) -> Result<Changed, Layer>
-        requires { line.at + length line.bytes.now < 2 ^ 64 }
         ensures answered { Sound (state_of self.old.pool) → 1 ≤ self.old.lines.read → Answered (console_of self.old) line.entry.bytes.now result (console_of self.new) }
         ensures read { self.new.lines.read ≡ self.old.lines.read }
         ensures ready { Ready self.old → Ready self.new }
         ensures allocator { self.new.allocator ≡ self.old.allocator }
     {
         if self.lines.read == 1 {
-            self.answer_first(line.bytes)
+            self.answer_first(line)
         } else {
             obey(&mut self.pool, line)
         }
     }
 
     // What the first line answers. After one that names no allocator, no more is read.
-    fn answer_first(&mut self, line: &[u8]) -> Result<Changed, Layer>
-        ensures cases { MatchResult result (λ a. NamesAllocator line.now × (a ≡ nothing_moved) × (console_of self.new ≡ console_of self.old)) (λ l. (NamesAllocator line.now → ⊥) × (l ≡ Script Letter) × (console_of self.new ≡ ended (console_of self.old))) }
+    fn answer_first(&mut self, line: Part<'_>) -> Result<Changed, Layer>
+        ensures cases { MatchResult result (λ a. NamesAllocator line.entry.bytes.now × (a ≡ nothing_moved) × (console_of self.new ≡ console_of self.old)) (λ l. (NamesAllocator line.entry.bytes.now → ⊥) × (l ≡ Script Letter) × (console_of self.new ≡ ended (console_of self.old))) }
         ensures ready { Ready self.old → Ready self.new }
         ensures allocator { self.new.allocator ≡ self.old.allocator }
     {
-        match name_allocator(line) {
+        match Make::try_from(line) {
             Ok(_) => Ok(Changed { taken: 0, given: 0 }),
             Err(cause) => {
                 self.lines.stop();
-                Err(Layer::Script(cause))
+                Err(Layer::from(cause))
             }
         }
     }

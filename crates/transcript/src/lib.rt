@@ -2,21 +2,13 @@
 // Proved: the bytes are what the console's definition says of the script, from its first line to its end.
 #![tactic(auto)]
 
-ghost use Rattle.std.specs.Prelude.{◌≡◌, ◌≤◌, ◌++◌, length, take, IfOk, OnOk};
+ghost use Rattle.std.specs.Prelude.{IfOk};
 ghost use Rattle.script.specs.Consoles.{Prints, opened};
 
 use records::ranges::FreeRange;
 use records::rows::Row;
 use script::session::{BITMAP_BYTES, FREE_RANGES, Memory, ROWS, SHORTEST_BUFFER, Session};
 use std::alloc::{AllocError, Global};
-
-// Adds the first `len` bytes of the line.
-fn append(out: &mut Vec<u8>, line: &[u8], len: usize) -> Result<(), AllocError>
-    requires { len ≤ length line.now }
-    ensures items { OnOk result (out.new.items ≡ out.old.items ++ take len line.now) }
-{
-    out.extend_from_slice(&line[0..len])
-}
 
 // All that the script prints.
 pub fn print(heap: Global, script: &[u8]) -> Result<Vec<u8>, AllocError>
@@ -33,11 +25,8 @@ pub fn print(heap: Global, script: &[u8]) -> Result<Vec<u8>, AllocError>
     let mut session = Session::open(script, memory);
     let mut out = Vec::new(heap);
     let mut line = [0u8; SHORTEST_BUFFER];
-    while let Ok(len) = session.print_next(&mut line) {
-        if len == 0 {
-            return Ok(out);
-        }
-        append(&mut out, &line, len)?;
+    while let Ok(Some(len)) = session.print_next(&mut line) {
+        out.extend_from_slice(&line[..len])?;
     }
     Ok(out)
 }

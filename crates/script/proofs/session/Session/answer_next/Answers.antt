@@ -1,32 +1,26 @@
-use Rattle.std.proofs.Common.{◌≡◌, ◌+◌, refl, subst, arith}
+use Rattle.std.proofs.Common.{◌≡◌, ◌+◌, [], refl, ap, ◌∙◌, arith, rules}
+use Rattle.faults.specs.declared.ScriptCause.TheVariants.{Size}
 use Rattle.script.specs.Consoles.{FirstLine, TooLong}
-use Rattle.script.specs.Sessions.{CountedWell, console_of, rest_of}
-use Rattle.script.specs.declared.lines.Lines.{Lines}
-use Rattle.script.proofs.Nexts.{too_long_next, line_next}
+use Rattle.script.specs.Sessions.{console_of, rest_of}
+use Rattle.script.specs.Shown.{shown_fault}
+use Rattle.script.proofs.Nexts.{too_long_next, line_next, mapped_shows}
 use Rattle.script.proofs.session.Session.answer_next.Goals as goal
 
-pub returns-in-Err : goal.returns-in-Err
-returns-in-Err c =
-    let told = c.in-Err.ensures.cases in
-    record {
-      cases = λ ready. too_long_next (console_of c.args.self.now) _ _ c.in-Err.cause told.0 told.1 told.2 told.3 refl c.of.ensures.value;
-      ready = λ ready. (ready.0, c.in-Err.ensures.counted ready.1);
-      allocator = refl;
-    }
-
-pub returns-in-Some : goal.returns-in-Some
-returns-in-Some c =
+pub returns-in-Err-clause-cases : goal.returns-in-Err-clause-cases
+returns-in-Err-clause-cases c = λ ready.
     let old = c.args.self.now.lines in
-    let new = c.next_line.new.self in
-    let same : c.check_length.new.self ≡ old = c.in_default.ensures.cases.1 in
-    let short = c.in_default.ensures.cases.0 in
-    let first : FirstLine (rest_of old) c.in-Some.line.bytes.now (rest_of new) = subst (λ (l : Lines). FirstLine (rest_of l) c.in-Some.line.bytes.now (rest_of new)) same c.in-Some.ensures.cases in
-    let counts = λ (well : CountedWell old). subst (λ (l : Lines). CountedWell l → (TooLong (rest_of l) → ⊥) → CountedWell new × (new.read ≡ l.read + 1)) same c.in-Some.ensures.counted well short in
-    record {
-      cases = λ ready.
-          line_next (console_of c.args.self.now) (console_of (record { lines = new; pool = c.args.self.now.pool; allocator = c.args.self.now.allocator })) _ c.in-Some.line.bytes.now _ c.answer_line-answer.result _
-          short first (counts ready.1).1 refl (c.answer_line-answer.ensures.answered ready.0 (omega (arith, (counts ready.1).1)))
-          c.answer_line-answer.ensures.read c.of-in-Some.ensures.value;
-      ready = λ ready. c.answer_line-answer.ensures.ready (ready.0, (counts ready.1).0);
-      allocator = c.answer_line-answer.ensures.allocator;
-    }
+    let new = c.next.new.self in
+    let cause = c.in-Err.cause in
+    let read : (cause ≡ Size) × TooLong (rest_of old) × (rest_of new ≡ []) × (new.read ≡ old.read) = rw c.in-Err.is at c.in_ok-line.ensures.steps in
+    too_long_next (console_of c.args.self.now) _ (shown_fault c.on_line.result) cause read.0 read.1 read.2 read.3 refl
+    (ap shown_fault (c.on_line.ensures.value ∙ ap (λ l. record { layer = l; line = 0 }) c.from.ensures))
+
+pub returns-in-Ok-clause-cases : goal.returns-in-Ok-clause-cases
+returns-in-Ok-clause-cases c = λ ready.
+    let old = c.args.self.now.lines in
+    let new = c.next.new.self in
+    let line = c.in-Ok.line.bytes.now in
+    let read : (TooLong (rest_of old) → ⊥) × FirstLine (rest_of old) line (rest_of new) × (new.read ≡ old.read + 1) = rw c.in-Ok.is at c.in_ok-line.ensures.steps in
+    line_next (console_of c.args.self.now) (console_of (record { lines = new; pool = c.args.self.now.pool; allocator = c.args.self.now.allocator })) _ line _ c.answer_line-answer.result
+    c.answer_line-answer.new.self.lines.read read.0 read.1 read.2 refl (c.answer_line-answer.ensures.answered ready (omega (arith, read.2))) c.answer_line-answer.ensures.read
+    (mapped_shows _ c.answer_line-answer.result c.map_err-answer.result _ c.map_err-answer.ensures.cases (λ layer fault told. search rules))
