@@ -1,14 +1,15 @@
 // Runs each script that an argument names, and prints its name and its answers.
 #![tactic(auto)]
 
+use std::fs::Files;
 use std::io::Write;
 use std::{env, fs, io};
 
-fn run_case(rt: &HostRuntime, name: &str) -> io::Result<()> {
+fn run_case(rt: &(impl Files + Print + AllocGlobal), name: &str) -> io::Result<()> {
     let script = fs::read(rt, name)?;
     let answers = transcript::print(rt.alloc(), &script)?;
     println!(rt; "# {name}")?;
-    rt.stdout().write_all(&answers)
+    io::writer(rt).write_all(&answers)
 }
 
 fn main(rt: HostRuntime) -> io::Result<()> {
