@@ -13,6 +13,7 @@ pub put_then : {a b c : List ℕ} {at mid end : ℕ} {xs ys : List ℕ} → Put 
 put_then {a} {b} {c} {at} {mid} {end} {xs} {ys} p q = record {
   long = omega (arith, p.long, q.long, length-append xs ys);
   within = q.within;
+  room = q.room ∙ p.room;
   front = q.front ∙ ap (λ l. l ++ ys) p.front ∙ append_assoc (take at a) xs ys;
   rest = q.rest ∙ later b a mid end (omega (arith, q.long)) p.rest;
 }

@@ -15,6 +15,7 @@ Buffer n = 80 ≤ n
 pub record Put (before after : List ℕ) (at end : ℕ) (bs : List ℕ) : Type 0 where
   pub long : end ≡ at + length bs
   pub within : end ≤ length after
+  pub room : length after ≡ length before
   pub front : take end after ≡ take at before ++ bs
   pub rest : drop end after ≡ drop end before
 

@@ -30,7 +30,6 @@ impl Line<'_> {
     fn push(&mut self, bytes: &[u8])
         requires { self.old.end + length bytes.now ≤ length self.old.out.now }
         ensures same_reference { self.new.out.ghost_name ≡ self.old.out.ghost_name }
-        ensures room { length self.new.out.now ≡ length self.old.out.now }
         ensures wrote { Put self.old.out.now self.new.out.now self.old.end self.new.end bytes.now }
     {
         let end = self.end + bytes.len();
@@ -42,7 +41,6 @@ impl Line<'_> {
     fn push_number(&mut self, n: u32)
         requires { self.old.end + 10 ≤ length self.old.out.now }
         ensures same_reference { self.new.out.ghost_name ≡ self.old.out.ghost_name }
-        ensures room { length self.new.out.now ≡ length self.old.out.now }
         ensures bound { self.new.end ≤ self.old.end + 10 }
         ensures wrote { Put self.old.out.now self.new.out.now self.old.end self.new.end (decimal n) }
     {
@@ -54,7 +52,6 @@ impl Line<'_> {
     fn push_change(&mut self, changed: Changed)
         requires { self.old.end + 80 ≤ length self.old.out.now }
         ensures same_reference { self.new.out.ghost_name ≡ self.old.out.ghost_name }
-        ensures room { length self.new.out.now ≡ length self.old.out.now }
         ensures wrote { Put self.old.out.now self.new.out.now self.old.end self.new.end (shown_change changed) }
     {
         self.push(b"ok ");
@@ -68,7 +65,6 @@ impl Line<'_> {
     fn push_fault(&mut self, fault: Fault)
         requires { self.old.end + 80 ≤ length self.old.out.now }
         ensures same_reference { self.new.out.ghost_name ≡ self.old.out.ghost_name }
-        ensures room { length self.new.out.now ≡ length self.old.out.now }
         ensures wrote { Put self.old.out.now self.new.out.now self.old.end self.new.end (shown_fault fault) }
     {
         self.push(b"no ");

@@ -125,10 +125,10 @@ impl<'s, 'm> Session<'s, 'm> {
         if out.len() < SHORTEST_BUFFER {
             return Err(ScriptCause::Size);
         }
-        match self.answer_next() {
-            Some(answer) => Ok(Some(print(answer, out))),
-            None => Ok(None),
-        }
+        let Some(answer) = self.answer_next() else {
+            return Ok(None);
+        };
+        Ok(Some(print(answer, out)))
     }
 
     // What the next line answers, or nothing where no more is read.
@@ -138,10 +138,9 @@ impl<'s, 'm> Session<'s, 'm> {
         ensures allocator { self.new.allocator ≡ self.old.allocator }
     {
         let answer = match self.lines.next()? {
-            Ok(line) => {
-                let answer = self.answer_line(line);
-                answer.map_err(|layer| layer.on_line(self.lines.read))
-            }
+            Ok(line) => self
+                .answer_line(line)
+                .map_err(|layer| layer.on_line(self.lines.read)),
             Err(cause) => Err(Layer::from(cause).on_line(0)),
         };
         Some(answer)
