@@ -18,7 +18,8 @@ pub fn print(answer: Result<Changed, Fault>, out: &mut [u8]) -> usize
     line.end
 }
 
-// A line at the start of a lent buffer. It is not written by `write!`, whose contract does not promise that it is Ok.
+// A line at the start of a lent buffer. It is not written by `write!`, whose contract says what was written where it is
+// Ok, and does not promise that it is.
 #[derive(Drop)]
 struct Line<'o> {
     out: &'o mut [u8],
@@ -27,6 +28,7 @@ struct Line<'o> {
 
 impl Line<'_> {
     // Adds the bytes.
+    #[tactic(auto, using(std::proofs::lemmas::Slice::overwrites))]
     fn push(&mut self, bytes: &[u8])
         requires { self.old.end + length bytes.now ≤ length self.old.out.now }
         ensures same_reference { self.new.out.ghost_name ≡ self.old.out.ghost_name }
