@@ -6,7 +6,7 @@ ghost use Rattle.std.specs.Prelude.{◌≡◌, ◌+◌, ◌^◌, ◌<◌, length
 pub struct Part<'s> {
     pub bytes: &'s [u8],
     pub at: usize,
-    // It ends at a place, too.
+    // A script is no longer than a `usize` counts, so the part's end is a place too.
     ghost inside: { at + length bytes.now < 2 ^ 64 },
 }
 

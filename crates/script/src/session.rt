@@ -9,7 +9,7 @@ ghost use Rattle.script.specs.Consoles.{Answered, FirstLine, Names, NamesAllocat
 ghost use Rattle.script.specs.Sessions.{NewAllocator, Ready, console_of};
 ghost use Rattle.script.specs.Shown.{Buffer, shown};
 
-use crate::answers::print;
+use crate::answers;
 use crate::calls::read_call;
 use crate::lines::Lines;
 use crate::parts::Part;
@@ -99,6 +99,7 @@ impl<'s, 'm> Session<'s, 'm> {
         ensures ready { Ready result }
         ensures allocator { NewAllocator script.now result.allocator }
     {
+        // Memory of these lengths holds a pool, and an allocator of either make.
         let Memory { rows, bits, ranges } = memory;
         let Ok(pool) = Pool::format(rows) else {
             unreachable!()
@@ -128,7 +129,7 @@ impl<'s, 'm> Session<'s, 'm> {
         let Some(answer) = self.answer_next() else {
             return Ok(None);
         };
-        Ok(Some(print(answer, out)))
+        Ok(Some(answers::print(answer, out)))
     }
 
     // What the next line answers, or nothing where no more is read.
