@@ -1,5 +1,6 @@
 // The lines of a script, in turn.
 ghost use Rattle.std.specs.Prelude.{◌≡◌, ◌+◌, ◌≤◌, min, [], length};
+ghost use Rattle.script.specs.declared.lines.TheConstants.{LONGEST_SCRIPT};
 
 use crate::parts::Part;
 use faults::ScriptCause;
@@ -14,7 +15,7 @@ pub struct Lines<'s> {
     // How many lines were read.
     pub read: u32,
     // Each of them had a byte, of a script that is not too long: of one that is, none was read.
-    ghost counted: { read + min (length rest.bytes.now) 32768 ≤ 32768 },
+    ghost counted: { read + min (length rest.bytes.now) LONGEST_SCRIPT ≤ LONGEST_SCRIPT },
 }
 
 impl<'s> Lines<'s> {

@@ -149,7 +149,7 @@ impl<'s, 'm> Session<'s, 'm> {
 
     // What that line answers, which was just read.
     fn answer_line(&mut self, line: Part<'_>) -> Result<Changed, Layer>
-        ensures answered { Sound (state_of self.old.pool) → 1 ≤ self.old.lines.read → Answered (console_of self.old) line.entry.bytes.now result (console_of self.new) }
+        ensures answered { Ready self.old → 1 ≤ self.old.lines.read → Answered (console_of self.old) line.entry.bytes.now result (console_of self.new) }
         ensures read { self.new.lines.read ≡ self.old.lines.read }
         ensures ready { Ready self.old → Ready self.new }
         ensures allocator { self.new.allocator ≡ self.old.allocator }

@@ -1,4 +1,4 @@
-use Rattle.std.proofs.Common.{ℕ, List, [], ◌++◌, take, vec_items, sym, subst, append-nil, arith, rules}
+use Rattle.std.proofs.Common.{◌≡◌, ℕ, List, [], ◌++◌, take, vec_items, sym, subst, append-nil, arith, rules}
 use Rattle.script.specs.Consoles.{Next, Over, Prints, none, opened}
 use Rattle.script.specs.Sessions.{console_of}
 use Rattle.script.proofs.Runs.{shorter, printed_more}
@@ -16,7 +16,8 @@ loop-len-preserved c = (
   c.in-Ok-Some.ensures.ready c.loop-len.invariant.0,
   omega (arith, c.print_next.auto.out, c.loop-len.invariant.1),
   λ rest more.
-      subst (λ (out : List ℕ). Prints (opened c.args.script.now) (out ++ rest)) (sym c.in_ok-extend_from_slice.ensures.items)
+      let all : vec_items c.extend_from_slice.new.self ≡ vec_items c.loop-len.out ++ take c.in-Ok-Some.len c.print_next.new.out = search rules in
+      subst (λ (out : List ℕ). Prints (opened c.args.script.now) (out ++ rest)) (sym all)
       (printed_more _ _ (Prints (opened c.args.script.now)) (vec_items c.loop-len.out) _ c.loop-len.invariant.2 (next c) rest more),
 )
 
