@@ -11,7 +11,7 @@ use Rattle.model.specs.declared.Changed.{Changed}
 abbrev pub Buffer : ℕ → Type 0
 Buffer n = 80 ≤ n
 
--- the bytes stand in the buffer from a place on, up to the end; before and past them it is as it was
+-- the bytes stand in the buffer from a place on, up to the end; before and past them it is as it was, and as long
 pub record Put (before after : List ℕ) (at end : ℕ) (bs : List ℕ) : Type 0 where
   pub long : end ≡ at + length bs
   pub within : end ≤ length after
