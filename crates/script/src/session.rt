@@ -168,7 +168,7 @@ impl<'s, 'm> Session<'s, 'm> {
         ensures allocator { self.new.allocator ≡ self.old.allocator }
     {
         match Make::try_from(line) {
-            Ok(_) => Ok(Changed { taken: 0, given: 0 }),
+            Ok(_) => Ok(Changed::default()),
             Err(cause) => {
                 self.lines.stop();
                 Err(Layer::from(cause))
