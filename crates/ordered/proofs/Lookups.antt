@@ -1,20 +1,25 @@
 -- What follows from where a key is found, in any records. Assumes nothing.
-use Rattle.std.proofs.Common.{◌≡◌, ℕ, zero, suc, ◌<◌, ◌≤◌, Bool, true, false, ◌⊎◌, List, [], ◌∷◌, length, get_or, set, Some, None, Option, sym, refl, ap, ◌∙◌, subst, inl, inr, arith}
+use Rattle.std.proofs.Common.{◌≡◌, ℕ, zero, suc, ◌<◌, ◌≤◌, Bool, true, false, cond, List, [], ◌∷◌, length, get_or, set, Some, None, Option, refl, ap, ◌∙◌, arith}
 use Rattle.std.specs.List.{remove}
 use Rattle.std.specs.Option.{option_map}
-use Rattle.std.proofs.lemmas.Bool.{cases_Bool, cond-true, cond-false}
+use Rattle.std.proofs.lemmas.Bool.{cond-true, cond-false}
 use Rattle.ordered.specs.Tables.{same, index_of, record_of, rank_of, without_key, replaced}
 
-none_some : {X : Type 0} (x : X) → None ≡ Some x → ⊥
-none_some x e = cc
+-- an index in a list, by that in the list without its first element
+at_first : (here : Bool) (o : Option ℕ) → cond here (Some 0) (option_map suc o) ≡ Some 0 → here ≡ true
+at_first true o e = refl
+at_first false None e = cc
+at_first false (Some i) e = let z : suc i ≡ 0 = cc in absurd (omega arith)
 
-from_mapped : (o : Option ℕ) (i : ℕ) → option_map suc o ≡ Some i → (j : ℕ) × (o ≡ Some j) × (suc j ≡ i)
-from_mapped None i e = absurd (none_some i e)
-from_mapped (Some j) i e = (j, refl, cc)
+at_later : (here : Bool) (o : Option ℕ) (i : ℕ) → cond here (Some 0) (option_map suc o) ≡ Some (suc i) → (here ≡ false) × (o ≡ Some i)
+at_later true o i e = let z : 0 ≡ suc i = cc in absurd (omega arith)
+at_later false None i e = cc
+at_later false (Some j) i e = let z : suc j ≡ suc i = cc in let same : j ≡ i = omega arith in (refl, ap Some same)
 
-from_mapped_none : (o : Option ℕ) → option_map suc o ≡ None → o ≡ None
-from_mapped_none None e = refl
-from_mapped_none (Some j) e = absurd (none_some (suc j) (sym e))
+at_none : (here : Bool) (o : Option ℕ) → cond here (Some 0) (option_map suc o) ≡ None → (here ≡ false) × (o ≡ None)
+at_none true o e = cc
+at_none false None e = (refl, refl)
+at_none false (Some i) e = cc
 
 module _ {R K : Type 0} (key : R → K) (below : K → K → Bool) where
   -- the record at i is the first with key k
@@ -48,30 +53,26 @@ module _ {R K : Type 0} (key : R → K) (below : K → K → Bool) where
     pub over : (r : R) → key r ≡ k → replaced key below xs r ≡ set xs i r
 
   pub found : (xs : List R) (k : K) (i : ℕ) → index_of key below xs k ≡ Some i → Found xs k i
-  found [] k i e = absurd (none_some i e)
-  found (x ∷ xs) k i e = go (found xs k) (cases_Bool (same below (key x) k))
-    where
-      go : ((j : ℕ) → index_of key below xs k ≡ Some j → Found xs k j) → (same below (key x) k ≡ true) ⊎ (same below (key x) k ≡ false) → Found (x ∷ xs) k i
-      go later (inl here) =
-          let first : index_of key below (x ∷ xs) k ≡ Some 0 = cond-true _ _ _ here in
-          let start : 0 ≡ i = cc in
-          subst (Found (x ∷ xs) k) start (record {
-            within = omega arith;
-            here = λ d. here;
-            entry = λ d. cond-true _ _ _ here;
-            less = cond-true _ _ _ here;
-            over = λ r is. cond-true _ _ _ (subst (λ a. same below (key x) a ≡ true) (sym is) here);
-          })
-      go later (inr past) =
-          let m = from_mapped (index_of key below xs k) i (sym (cond-false _ _ _ past) ∙ e) in
-          let f = later m.0 m.1 in
-          subst (Found (x ∷ xs) k) m.2 (record {
-            within = omega (arith, f.within);
-            here = f.here;
-            entry = λ d. cond-false _ _ _ past ∙ f.entry d;
-            less = cond-false _ _ _ past ∙ ap (λ ys. x ∷ ys) f.less;
-            over = λ r is. cond-false _ _ _ (subst (λ a. same below (key x) a ≡ false) (sym is) past) ∙ ap (λ ys. x ∷ ys) (f.over r is);
-          })
+  found [] k i e = cc
+  found (x ∷ xs) k zero e =
+      let here = at_first _ _ e in
+      record {
+        within = omega arith;
+        here = λ d. here;
+        entry = λ d. cond-true _ _ _ here;
+        less = cond-true _ _ _ here;
+        over = λ r is. grind (arith, here, is);
+      }
+  found (x ∷ xs) k (suc i) e =
+      let past = at_later _ _ i e in
+      let f = found xs k i past.1 in
+      record {
+        within = omega (arith, f.within);
+        here = f.here;
+        entry = λ d. cond-false _ _ _ past.0 ∙ f.entry d;
+        less = cond-false _ _ _ past.0 ∙ ap (λ ys. x ∷ ys) f.less;
+        over = λ r is. grind (arith, past.0, is, f.over r is);
+      }
 
   -- key k is not found
   pub record Missing (xs : List R) (k : K) : Type 0 where
@@ -80,11 +81,7 @@ module _ {R K : Type 0} (key : R → K) (below : K → K → Bool) where
     pub over : (r : R) → key r ≡ k → replaced key below xs r ≡ xs
 
   pub missing_parts : (x : R) (xs : List R) (k : K) → index_of key below (x ∷ xs) k ≡ None → (same below (key x) k ≡ false) × (index_of key below xs k ≡ None)
-  missing_parts x xs k e = go (cases_Bool (same below (key x) k))
-    where
-      go : (same below (key x) k ≡ true) ⊎ (same below (key x) k ≡ false) → (same below (key x) k ≡ false) × (index_of key below xs k ≡ None)
-      go (inl here) = absurd (none_some 0 (sym e ∙ cond-true _ _ _ here))
-      go (inr past) = (past, from_mapped_none (index_of key below xs k) (sym (cond-false _ _ _ past) ∙ e))
+  missing_parts x xs k e = at_none _ _ e
 
   pub missing : (xs : List R) (k : K) → index_of key below xs k ≡ None → Missing xs k
   missing [] k e = record { entry = refl; less = refl; over = λ r is. refl }
@@ -94,5 +91,5 @@ module _ {R K : Type 0} (key : R → K) (below : K → K → Bool) where
       record {
         entry = cond-false _ _ _ parts.0 ∙ f.entry;
         less = cond-false _ _ _ parts.0 ∙ ap (λ ys. x ∷ ys) f.less;
-        over = λ r is. cond-false _ _ _ (subst (λ a. same below (key x) a ≡ false) (sym is) parts.0) ∙ ap (λ ys. x ∷ ys) (f.over r is);
+        over = λ r is. grind (arith, parts.0, is, f.over r is);
       }

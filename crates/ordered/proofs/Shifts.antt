@@ -1,7 +1,6 @@
 -- The records in use after a step on the places: one more, one less, one exchanged. Assumes nothing.
 use Rattle.std.proofs.Common.{◌≡◌, ℕ, zero, suc, ◌+◌, ◌-◌, ◌<◌, ◌≤◌, List, [], ◌∷◌, ◌++◌, length, get_or, take, drop, set, sym, refl, ap, ◌∙◌, arith}
-use lib.Seq.{paste}
-use Rattle.std.specs.List.{insert, remove}
+use Rattle.std.specs.List.{copy_within, insert, remove}
 use Rattle.std.proofs.Math.Seq.{take-set-lt}
 use Rattle.std.proofs.lemmas.List.Edits.{take-paste}
 use Rattle.std.proofs.lemmas.List.{append_assoc, drop-take, length-drop, length-take-le, set_at, take_more, take-take}
@@ -18,7 +17,7 @@ back xs n i le = let e : n ≡ i + (n - i) = omega arith in ap (λ m. drop i (ta
 
 -- a gap is opened at i, and r is put there
 pub gap_filled : {R : Type 0} (xs : List R) (n i : ℕ) (r : R) → i ≤ n → n < length xs
-    → take (n + 1) (set (paste xs (i + 1) (drop i xs) (n - i)) i r) ≡ insert (take n xs) i r
+    → take (n + 1) (set (copy_within xs i n (i + 1)) i r) ≡ insert (take n xs) i r
 gap_filled {R} xs n i r le room =
     take-set-lt (n + 1) moved i r (omega arith)
     ∙ ap (λ ys. set ys i r) (ap (λ m. take m moved) ends ∙ take-paste xs (i + 1) (drop i xs) (n - i) (omega arith) (omega (arith, length-drop i xs)))
@@ -28,7 +27,7 @@ gap_filled {R} xs n i r le room =
     ∙ sym (ap (λ ys. ys ++ r ∷ drop i (take n xs)) (take-take i n xs le) ∙ ap (λ ys. take i xs ++ r ∷ ys) (back xs n i le))
   where
     moved : List R
-    moved = paste xs (i + 1) (drop i xs) (n - i)
+    moved = copy_within xs i n (i + 1)
 
     rest : List R
     rest = take (n - i) (drop i xs)
@@ -38,9 +37,9 @@ gap_filled {R} xs n i r le room =
 
 -- the gap that the record at i leaves is closed
 pub gap_closed : {R : Type 0} (xs : List R) (n i : ℕ) → i < n → n ≤ length xs
-    → take (n - 1) (paste xs i (drop (i + 1) xs) (n - (i + 1))) ≡ remove (take n xs) i
+    → take (n - 1) (copy_within xs (i + 1) n i) ≡ remove (take n xs) i
 gap_closed {R} xs n i lt le =
-    ap (λ m. take m (paste xs i (drop (i + 1) xs) (n - (i + 1)))) ends
+    ap (λ m. take m (copy_within xs (i + 1) n i)) ends
     ∙ take-paste xs i (drop (i + 1) xs) (n - (i + 1)) (omega arith) (omega (arith, length-drop (i + 1) xs))
     ∙ sym (ap (λ ys. ys ++ drop (suc i) (take n xs)) (take-take i n xs (omega arith)) ∙ ap (λ m. take i xs ++ drop m (take n xs)) next ∙ ap (λ ys. take i xs ++ ys) (back xs n (i + 1) (omega arith)))
   where

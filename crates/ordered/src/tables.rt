@@ -29,7 +29,7 @@ pub struct Table<'m, R> {
 
 impl<'m, R: Record> Table<'m, R> {
     // An empty table.
-    pub fn new(places: &'m mut [R]) -> Table<'m, R>
+    pub fn new(places: &'m mut [R]) -> Self
         ensures ordered { Ordered R.keyed R.Key.Key.below result }
         ensures empty { records result ≡ [] }
         ensures same { result.places.now ≡ places.old }
