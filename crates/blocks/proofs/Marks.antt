@@ -1,5 +1,5 @@
 -- The laws of bits in bytes.
-use Rattle.std.proofs.Common.{◌≡◌, ℕ, ◌+◌, ◌-◌, ◌/◌, ◌%◌, ◌^◌, ◌<◌, ◌≤◌, true, not, eqb, List, length, get_or, sym, ap, ◌∙◌, ◌≢◌, ⊎_elim, arith, get_or-set_other, get_or-set_same, w8}
+use Rattle.std.proofs.Common.{◌≡◌, ℕ, zero, suc, ◌+◌, ◌-◌, ◌/◌, ◌%◌, ◌^◌, ◌<◌, ◌≤◌, true, not, eqb, List, length, get_or, sym, refl, ap, ◌∙◌, ◌≢◌, ⊎_elim, arith, get_or-set_other, get_or-set_same, w8}
 use Rattle.std.specs.Int.{bit_at, trailing_ones}
 use Rattle.std.specs.Int.RustNames.{bit_xor}
 use Rattle.std.proofs.lemmas.Bool.{cases_eq, cases_lt}
@@ -21,8 +21,8 @@ module _ (v a : ℕ) (some : v < 255) (low : a < 8) where
   shifted : (k : ℕ) → a ≤ k → bit_at v k ≡ bit_at (v / 2 ^ a) (k - a)
   shifted k h = let e : a + (k - a) ≡ k = omega arith in ap (λ i. v / 2 ^ i % 2) (sym e) ∙ sym (ap (λ x. x % 2) (shr-shr v a (k - a)))
 
-  pub first_clear : FirstClear v a (a + ones)
-  first_clear =
+  first_of_other : FirstClear v a (a + ones)
+  first_of_other =
       let few : v / 2 ^ a + 1 < 2 ^ 8 = omega (arith, shr_le v a) in
       let first = bit_at-trailing_ones w8 (v / 2 ^ a) few in
       record {
@@ -31,6 +31,30 @@ module _ (v a : ℕ) (some : v < 255) (low : a < 8) where
         clear = λ h. ap (λ x. eqb x 1) (shifted (a + ones) (omega arith) ∙ ap (bit_at (v / 2 ^ a)) (omega arith) ∙ first.1);
         before = λ k h l. ap (λ x. eqb x 1) (shifted k h ∙ first.2 (k - a) (omega arith));
       }
+
+-- of a full byte there is none
+full_ones : (a : ℕ) → a < 8 → a + trailing_ones w8 (255 / 2 ^ a) ≡ 8
+unfolding lib.Count.count_trailing_zeros
+full_ones zero h = refl
+full_ones (suc zero) h = refl
+full_ones (suc (suc zero)) h = refl
+full_ones (suc (suc (suc zero))) h = refl
+full_ones (suc (suc (suc (suc zero)))) h = refl
+full_ones (suc (suc (suc (suc (suc zero))))) h = refl
+full_ones (suc (suc (suc (suc (suc (suc zero)))))) h = refl
+full_ones (suc (suc (suc (suc (suc (suc (suc zero))))))) h = refl
+full_ones (suc (suc (suc (suc (suc (suc (suc (suc a)))))))) h = absurd (omega arith)
+
+first_of_full : (v a : ℕ) → v ≡ 255 → a < 8 → FirstClear v a (a + trailing_ones w8 (v / 2 ^ a))
+first_of_full v a e low = rw e (record {
+  from = omega (arith, full_ones a low);
+  within = omega (arith, full_ones a low);
+  clear = λ h. absurd (omega (arith, full_ones a low));
+  before = λ k h l. full k (omega (arith, full_ones a low));
+})
+
+pub first_clear : (v a : ℕ) → v < 256 → a < 8 → FirstClear v a (a + trailing_ones w8 (v / 2 ^ a))
+first_clear v a byte low = ⊎_elim (λ (h : v < 255). first_of_other v a h low) (λ (h : 255 ≤ v). first_of_full v a (omega arith) low) (cases_lt v 255)
 
 -- one bit of a byte turned
 turned : (d : ℕ) → d < 2 → eqb ((d + 1) % 2) 1 ≡ not (eqb d 1)

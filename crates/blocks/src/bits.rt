@@ -37,10 +37,8 @@ pub(crate) fn clear(bytes: &mut [u8], count: usize)
 }
 
 // The first bit of a byte that is 0, from one bit on; 8 where there is none.
-#[tactic(auto, using(crate::proofs::Marks::first_clear))]
 fn clear_in(byte: u8, from: u32) -> u32
-    requires some { byte < 255 }
-    requires inside { from < 8 }
+    requires { from < 8 }
     ensures value { FirstClear byte from result }
 {
     from + (byte >> from).trailing_ones()
