@@ -77,8 +77,8 @@ pub struct Fault {
     pub line: u32,
 }
 
-// The numbers stand in a table for each layer: as the variants' own numbers they would want one cast written three
-// times, and nothing would be left to prove of a wrong one.
+// The numbers stand in a table for each layer: as the variants' own numbers they would want one cast, written three
+// times.
 impl ScriptCause {
     pub fn number(self) -> u8
         ensures value { result ≡ fault_number (Script self) }

@@ -41,7 +41,8 @@ macro_rules! for_both {
 }
 
 impl<'m> AnyAllocator<'m> {
-    // An allocator of that make over the memory that it needs, which owns nothing; where it is refused, of size 0.
+    // An allocator of that make over the memory that it needs, which owns nothing; where it is refused, of size 0. A pair,
+    // since a refused one is an allocator too.
     pub fn new(
         make: Make,
         size: u32,

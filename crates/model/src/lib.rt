@@ -20,11 +20,13 @@ pub struct Changed {
 }
 
 // A pool just formatted is sound.
+#[tactic(auto, using(crate::proofs::Keeps::formatted_sound))]
 pub fn formatted_is_sound()
     ensures { FormattedSound }
 {}
 
 // Whatever a call answers, a sound pool stays sound.
+#[tactic(auto, using(crate::proofs::Keeps::steps_keep_sound))]
 pub fn steps_keep_sound()
     ensures { StepsKeepSound }
 {}

@@ -10,7 +10,7 @@
 --     Alone                               two lists of records differ at one key alone
 --     either r                            the index in an answer of the search
 --     answer, after                       what an insertion answers, and the records that it leaves
-use Rattle.std.specs.Prelude.{◌≡◌, ℕ, suc, ◌+◌, ◌-◌, ◌<◌, Bool, false, cond, not, ◌&&◌, ◌||◌, List, [], ◌∷◌, length, is_some, Some, None, Ok, Err, filter, Option, Result, ◌==◌, nat_le, nat_lt, slice_index_or}
+use Rattle.std.specs.Prelude.{◌≡◌, ℕ, suc, ◌+◌, ◌-◌, ◌<◌, Bool, false, if◌then◌else◌, not, ◌&&◌, ◌||◌, List, [], ◌∷◌, length, is_some, Some, None, Ok, Err, filter, Option, Result, ◌==◌, nat_le, nat_lt, slice_index_or}
 use Rattle.std.specs.Option.{option_map}
 use Rattle.ordered.specs.declared.tables.InsertError.{InsertError}
 use Rattle.ordered.specs.declared.tables.InsertError.TheVariants.{Present, Full}
@@ -26,17 +26,17 @@ Ascending {R} key below xs = (i j : ℕ) (d : R) → i < j → j < length xs →
 -- the index of the record with key k
 abbrev pub index_of : {R K : Type 0} → (R → K) → (K → K → Bool) → List R → K → Option ℕ
 index_of key below [] k = None
-index_of key below (x ∷ xs) k = cond (same below (key x) k) (Some 0) (option_map suc (index_of key below xs k))
+index_of key below (x ∷ xs) k = if same below (key x) k then Some 0 else option_map suc (index_of key below xs k)
 
 -- the record with key k
 abbrev pub record_of : {R K : Type 0} → (R → K) → (K → K → Bool) → List R → K → Option R
 record_of key below [] k = None
-record_of key below (x ∷ xs) k = cond (same below (key x) k) (Some x) (record_of key below xs k)
+record_of key below (x ∷ xs) k = if same below (key x) k then Some x else record_of key below xs k
 
 -- how many records have keys below k
 abbrev pub rank_of : {R K : Type 0} → (R → K) → (K → K → Bool) → List R → K → ℕ
 rank_of key below [] k = 0
-rank_of key below (x ∷ xs) k = cond (below (key x) k) (suc (rank_of key below xs k)) (rank_of key below xs k)
+rank_of key below (x ∷ xs) k = if below (key x) k then suc (rank_of key below xs k) else rank_of key below xs k
 
 -- the records whose keys are not below `low` and are below `high`
 abbrev pub part_of : {R K : Type 0} → (R → K) → (K → K → Bool) → List R → K → K → List R
@@ -45,17 +45,17 @@ part_of key below xs low high = filter (λ x. not (below (key x) low) && below (
 -- the records with r before the first whose key is not below its own
 abbrev pub with_record : {R K : Type 0} → (R → K) → (K → K → Bool) → List R → R → List R
 with_record key below [] r = r ∷ []
-with_record key below (x ∷ xs) r = cond (below (key x) (key r)) (x ∷ with_record key below xs r) (r ∷ (x ∷ xs))
+with_record key below (x ∷ xs) r = if below (key x) (key r) then x ∷ with_record key below xs r else r ∷ (x ∷ xs)
 
 -- the records without the one with key k
 abbrev pub without_key : {R K : Type 0} → (R → K) → (K → K → Bool) → List R → K → List R
 without_key key below [] k = []
-without_key key below (x ∷ xs) k = cond (same below (key x) k) xs (x ∷ without_key key below xs k)
+without_key key below (x ∷ xs) k = if same below (key x) k then xs else x ∷ without_key key below xs k
 
 -- the records with r in the place of the one with its key
 abbrev pub replaced : {R K : Type 0} → (R → K) → (K → K → Bool) → List R → R → List R
 replaced key below [] r = []
-replaced key below (x ∷ xs) r = cond (same below (key x) (key r)) (r ∷ xs) (x ∷ replaced key below xs r)
+replaced key below (x ∷ xs) r = if same below (key x) (key r) then r ∷ xs else x ∷ replaced key below xs r
 
 -- k is above the key before index i and below the one after it, where there are such
 abbrev pub fits_at : {R K : Type 0} → (R → K) → (K → K → Bool) → List R → R → K → ℕ → Bool
@@ -68,7 +68,7 @@ fits_over key below xs d k (Some i) = fits_at key below xs d k i
 
 -- key k finds w in ys, and every other key finds there what it finds in xs
 abbrev pub Alone : {R K : Type 0} → (R → K) → (K → K → Bool) → List R → List R → K → Option R → Type 0
-Alone {R} {K} key below xs ys k w = (q : K) → record_of key below ys q ≡ cond (same below k q) w (record_of key below xs q)
+Alone {R} {K} key below xs ys k w = (q : K) → record_of key below ys q ≡ (if same below k q then w else record_of key below xs q)
 
 -- the index that a search answers, found or not
 abbrev pub either : Result ℕ ℕ → ℕ
@@ -77,7 +77,7 @@ either (Err i) = i
 
 -- what an insertion answers in a table with room for `room` records: present, else full, else placed
 abbrev pub answer : {R K : Type 0} → (R → K) → (K → K → Bool) → ℕ → List R → R → Result (Unit {0}) InsertError
-answer key below room xs r = cond (is_some (index_of key below xs (key r))) (Err Present) (cond (nat_lt (length xs) room) (Ok tt) (Err Full))
+answer key below room xs r = if is_some (index_of key below xs (key r)) then Err Present else if nat_lt (length xs) room then Ok tt else Err Full
 
 -- the records after that answer
 abbrev pub after : {R K : Type 0} → (R → K) → (K → K → Bool) → List R → R → Result (Unit {0}) InsertError → List R

@@ -34,52 +34,6 @@ in_order n t s = rises 0 n (records t) s.maximal
 pub untouched : (n k : ℕ) (xs : List FreeRange) → apart 0 n xs ≡ true → in_some xs k ≡ false → without xs k ≡ xs
 untouched n k xs e out = (missing first_of first_below xs (at_block k) (absent 0 n k xs e out)).less
 
--- a range put in the place of the one that begins where it does, or among the others
-module _ (n : ℕ) (t : Table FreeRange) (r : FreeRange) (s : Regular n t) where
-  there : (i : ℕ) → place_at (records t) r.first ≡ Some i → range_at (records t) r.first ≡ Some (get_or (records t) i r)
-  there i e = (found first_of first_below (records t) (first_of r) i e).entry r
-
-  stands : apart 0 n (without (records t) r.first) ≡ true
-  stands = go (cases_option (place_at (records t) r.first))
-    where
-      go : (place_at (records t) r.first ≡ None) ⊎ ((i : ℕ) × (place_at (records t) r.first ≡ Some i)) → apart 0 n (without (records t) r.first) ≡ true
-      go (inl none) = ap (apart 0 n) (missing first_of first_below (records t) (first_of r) none).less ∙ s.maximal
-      go (inr (i, e)) = (removes 0 n r.first (records t) (get_or (records t) i r) s.maximal (there i e)).stands
-
-  module _ (f : Fitting n (without (records t) r.first) r) where
-    added : In 0 n (without (records t) r.first) (with_range (without (records t) r.first) r) r
-    added = adds 0 n (without (records t) r.first) r stands (omega arith) f.some f.high f.clear
-
-    pub settled : (u : Table FreeRange) → room u ≡ room t → records u ≡ with_range (without (records t) r.first) r → Put n t u r
-    settled u same e = record {
-      regular = record { few = s.few; places = omega (arith, s.places); maximal = ap (apart 0 n) e ∙ added.stands };
-      blocks = λ k. ap (λ (l : List FreeRange). in_some l k) e ∙ added.blocks k;
-    }
-
-    pub in_place : (u : Table FreeRange) → room u ≡ room t → true ≡ is_some (place_at (records t) r.first) → records u ≡ over_range (records t) r → Put n t u r
-    in_place u same is e = go (cases_option (place_at (records t) r.first))
-      where
-        go : (place_at (records t) r.first ≡ None) ⊎ ((i : ℕ) × (place_at (records t) r.first ≡ Some i)) → Put n t u r
-        go (inl none) = absurd (both_ways true (is ∙ ap is_some none) refl)
-        go (inr (i, at)) = settled u same (e ∙ swapped 0 n (records t) (get_or (records t) i r) r s.maximal (there i at))
-
-    -- a place is always left
-    pub among : (v u : Table FreeRange) (a : Result (Unit {0}) InsertError) → room v ≡ room t → room u ≡ room v → false ≡ is_some (place_at (records t) r.first) → records v ≡ over_range (records t) r
-        → a ≡ answer first_of first_below (room v) (records v) r → records u ≡ after first_of first_below (records v) r a → Put n t u r
-    among v u a same-v same-u is kept value items = go (cases_option (place_at (records t) r.first))
-      where
-        go : (place_at (records t) r.first ≡ None) ⊎ ((i : ℕ) × (place_at (records t) r.first ≡ Some i)) → Put n t u r
-        go (inr (i, at)) = absurd (both_ways true (sym (is ∙ ap is_some at)) refl)
-        go (inl none) =
-            let m = missing first_of first_below (records t) (first_of r) none in
-            let e : records v ≡ records t = kept ∙ m.over r refl in
-            let half = at_most_half n (with_range (without (records t) r.first) r) added.stands in
-            let more = added.longer in
-            let shorter : length (without (records t) r.first) ≡ length (records t) = ap length m.less in
-            let left : length (records v) < room v = omega (arith, ap length e, s.places) in
-            let placed : a ≡ Ok tt = value ∙ cond-false _ _ _ (ap (λ (l : List FreeRange). is_some (place_at l r.first)) e ∙ ap is_some none) ∙ cond-true _ _ _ (lt-ltb (length (records v)) (room v) left) in
-            settled u (same-u ∙ same-v) (items ∙ ap (after first_of first_below (records v) r) placed ∙ ap (λ (l : List FreeRange). with_range l r) (e ∙ sym m.less))
-
 -- a range put in the place of the one that begins at block b, if any
 module _ (n b : ℕ) (t : Table FreeRange) (r : FreeRange) (s : Regular n t) (f : Fitting n (without (records t) b) r) where
   left_apart : apart 0 n (without (records t) b) ≡ true
@@ -112,6 +66,36 @@ module _ (n b : ℕ) (t : Table FreeRange) (r : FreeRange) (s : Regular n t) (f 
 
     pub changed_after : (v : Table FreeRange) → Put n u v r → Changed n t b v r
     changed_after v put = record { regular = put.regular; blocks = λ k. put.blocks k ∙ ap (λ (l : List FreeRange). within r k || in_some l k) left_alone }
+
+-- a range put in the place of the one that begins where it does, or among the others
+module _ (n : ℕ) (t : Table FreeRange) (r : FreeRange) (s : Regular n t) where
+  there : (i : ℕ) → place_at (records t) r.first ≡ Some i → range_at (records t) r.first ≡ Some (get_or (records t) i r)
+  there i e = (found first_of first_below (records t) (first_of r) i e).entry r
+
+  module _ (f : Fitting n (without (records t) r.first) r) where
+    pub in_place : (u : Table FreeRange) → room u ≡ room t → true ≡ is_some (place_at (records t) r.first) → records u ≡ over_range (records t) r → Put n t u r
+    in_place u same is e = go (cases_option (place_at (records t) r.first))
+      where
+        go : (place_at (records t) r.first ≡ None) ⊎ ((i : ℕ) × (place_at (records t) r.first ≡ Some i)) → Put n t u r
+        go (inl none) = absurd (both_ways true (is ∙ ap is_some none) refl)
+        go (inr (i, at)) = changed_there n r.first t r s f u same (e ∙ swapped 0 n (records t) (get_or (records t) i r) r s.maximal (there i at))
+
+    -- a place is always left
+    pub among : (v u : Table FreeRange) (a : Result (Unit {0}) InsertError) → room v ≡ room t → room u ≡ room v → false ≡ is_some (place_at (records t) r.first) → records v ≡ over_range (records t) r
+        → a ≡ answer first_of first_below (room v) (records v) r → records u ≡ after first_of first_below (records v) r a → Put n t u r
+    among v u a same-v same-u is kept value items = go (cases_option (place_at (records t) r.first))
+      where
+        go : (place_at (records t) r.first ≡ None) ⊎ ((i : ℕ) × (place_at (records t) r.first ≡ Some i)) → Put n t u r
+        go (inr (i, at)) = absurd (both_ways true (sym (is ∙ ap is_some at)) refl)
+        go (inl none) =
+            let m = missing first_of first_below (records t) (first_of r) none in
+            let e : records v ≡ records t = kept ∙ m.over r refl in
+            let half = at_most_half n (with_range (without (records t) r.first) r) (put_there n r.first t r s f).stands in
+            let more = (put_there n r.first t r s f).longer in
+            let shorter : length (without (records t) r.first) ≡ length (records t) = ap length m.less in
+            let left : length (records v) < room v = omega (arith, ap length e, s.places) in
+            let placed : a ≡ Ok tt = value ∙ cond-false _ _ _ (ap (λ (l : List FreeRange). is_some (place_at l r.first)) e ∙ ap is_some none) ∙ cond-true _ _ _ (lt-ltb (length (records v)) (room v) left) in
+            changed_there n r.first t r s f u (same-u ∙ same-v) (items ∙ ap (after first_of first_below (records v) r) placed ∙ ap (λ (l : List FreeRange). with_range l r) (e ∙ sym m.less))
 
 -- a range cut out, or an empty one
 pub cut_none : (n f : ℕ) (xs : List FreeRange) → apart 0 n xs ≡ true → f ≤ n → Clear xs (record { first = f; length = 0 }) → Cut n xs xs (record { first = f; length = 0 })

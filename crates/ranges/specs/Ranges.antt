@@ -96,6 +96,6 @@ joined l k r = record { first = k - l; length = l + 1 + r }
 abbrev pub Longest : List FreeRange → FreeRange → Type 0
 Longest rs r = (i : ℕ) × IsFirstMaxByKey (λ (x : FreeRange). x.length) rs (length rs) i × ((d : FreeRange) → slice_index_or rs i d ≡ r)
 
--- there are places for every second block
+-- the size is from 1 to the largest, and there are places for every second block
 abbrev pub Suits : ℕ → ℕ → Type 0
 Suits n places = SizeFits n ((n + 1) / 2) places

@@ -40,15 +40,14 @@ pub record Fitting (n : ℕ) (rs : List FreeRange) (r : FreeRange) : Type 0 wher
   pub high : r.first + r.length ≤ n
   pub clear : Clear rs r
 
--- its free blocks are those of r and of the other ranges
-pub record Put (n : ℕ) (t u : Table FreeRange) (r : FreeRange) : Type 0 where
-  pub regular : Regular n u
-  pub blocks : (k : ℕ) → in_some (records u) k ≡ (within r k || in_some (without (records t) r.first) k)
-
 -- its free blocks are those of r and of the ranges that begin elsewhere than at b
 pub record Changed (n : ℕ) (t : Table FreeRange) (b : ℕ) (u : Table FreeRange) (r : FreeRange) : Type 0 where
   pub regular : Regular n u
   pub blocks : (k : ℕ) → in_some (records u) k ≡ (within r k || in_some (without (records t) b) k)
+
+-- it may be in the place of the range that begins where it does
+abbrev pub Put : ℕ → Table FreeRange → Table FreeRange → FreeRange → Type 0
+Put n t u r = Changed n t r.first u r
 
 -- the ranges that begin at or before block b are as they were
 pub record CutAfter (n : ℕ) (t : Table FreeRange) (b : ℕ) (u : Table FreeRange) (l : ℕ) : Type 0 where

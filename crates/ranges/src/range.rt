@@ -1,5 +1,6 @@
 // Questions about a free range, and the ranges that come of taking its first block or giving one back beside it. Each
 // answers on any range, also on one that no map holds. A length is 0 where there is no range, since `join` adds it up.
+// They are functions, as `FreeRange` is another crate's.
 ghost use Rattle.std.specs.Prelude.{◌≡◌, ◌+◌, ◌^◌, ◌<◌, not, ◌&&◌, ◌==◌, nat_lt};
 ghost use Rattle.ranges.specs.Ranges.{within, has, long, reach, rest_of, joined};
 

@@ -13,7 +13,7 @@ pub struct FreeRange {
 }
 
 impl FreeRange {
-    // What ranges may be filled with before they are lent.
+    // What ranges may be filled with before they are lent. A constant, like a row's.
     pub const UNUSED: FreeRange = FreeRange {
         first: 0,
         length: 0,

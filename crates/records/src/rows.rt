@@ -37,7 +37,8 @@ pub struct Row {
 }
 
 impl Row {
-    // What a row table may be filled with before it is lent: places past the last row hold anything.
+    // What a row table may be filled with before it is lent: places past the last row hold anything. A constant and no
+    // default, as no kind of dataset is one.
     pub const UNUSED: Row = Row {
         number: 0,
         height: 0,

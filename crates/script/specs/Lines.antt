@@ -2,7 +2,7 @@
 --     wanted b               how many words a line of the letter b has, or nothing where no line opens with b
 --     line_questions line    what is asked of a line before it is a call, in this order
 --     call_text c            the line that writes the call c
-use Rattle.std.specs.Prelude.{◌≡◌, ℕ, cond, List, [], ◌∷◌, ◌++◌, length, drop, Some, None, codes, decimal, Option, ◌==◌, slice_index}
+use Rattle.std.specs.Prelude.{◌≡◌, ℕ, if◌then◌else◌, List, [], ◌∷◌, ◌++◌, length, drop, Some, None, codes, decimal, Option, ◌==◌, slice_index}
 use Rattle.faults.specs.declared.Layer.TheVariants.{Script}
 use Rattle.faults.specs.declared.ScriptCause.TheVariants.{Letter, WordCount, Digits}
 use Rattle.model.specs.Questions.{Question, ask}
@@ -12,7 +12,7 @@ use Rattle.script.specs.Words.{words, Numeral}
 
 -- the letter c and two numbers, which are three words
 abbrev pub wanted : ℕ → Option ℕ
-wanted b = cond (b == 99) (Some 3) None
+wanted b = if b == 99 then Some 3 else None
 
 -- a known letter, followed by a space
 abbrev pub Opens : List ℕ → Type 0

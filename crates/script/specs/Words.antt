@@ -4,7 +4,7 @@
 --     Numeral bs         bs is such a number
 --     IsWord w bs at     the word w is what the bytes bs say, and keeps them and their place in the script
 --     TwoWords           bytes that are just two words
-use Rattle.std.specs.Prelude.{◌≡◌, ℕ, ◌+◌, ◌<◌, cond, List, [], ◌∷◌, ◌++◌, length, decimal, ◌==◌}
+use Rattle.std.specs.Prelude.{◌≡◌, ℕ, ◌+◌, ◌<◌, if◌then◌else◌, List, [], ◌∷◌, ◌++◌, length, decimal, ◌==◌}
 use Rattle.script.specs.declared.words.Word.{Word}
 use Rattle.script.specs.declared.words.Word.TheVariants.{Number, Text}
 
@@ -16,7 +16,7 @@ onto b (w ∷ ws) = (b ∷ w) ∷ ws
 -- cut at each space: two spaces have an empty word between them, and a last space has one after it
 abbrev pub words : List ℕ → List (List ℕ)
 words [] = [] ∷ []
-words (b ∷ bs) = cond (b == 32) ([] ∷ words bs) (onto b (words bs))
+words (b ∷ bs) = if b == 32 then [] ∷ words bs else onto b (words bs)
 
 -- one to five digits, without a leading zero unless it is 0: the decimal digits of a number below 100000
 abbrev pub Writes : List ℕ → ℕ → Type 0

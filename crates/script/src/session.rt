@@ -29,9 +29,9 @@ pub const ROWS: usize = 64;
 const BLOCKS: u32 = 256;
 
 // What a bitmap and a range map of that many blocks want.
-pub const BITMAP_BYTES: usize = 32;
+pub const BITMAP_BYTES: usize = (BLOCKS as usize + 7) / 8;
 
-pub const FREE_RANGES: usize = 128;
+pub const FREE_RANGES: usize = (BLOCKS as usize + 1) / 2;
 
 // The memory that a console is lent.
 pub struct Memory<'m> {
@@ -40,6 +40,7 @@ pub struct Memory<'m> {
     pub ranges: &'m mut [FreeRange; FREE_RANGES],
 }
 
+// That the pool is sound is a premise of the clauses, since lent memory may hold anything.
 #[derive(Drop)]
 pub struct Session<'s, 'm> {
     lines: Lines<'s>,

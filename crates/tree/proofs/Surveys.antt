@@ -7,8 +7,7 @@ use Rattle.std.specs.List.{range_with_len, AllWithin, HoldsAt}
 use Rattle.std.proofs.lemmas.List.FromFn.{get_or-range_with_len}
 use Rattle.records.specs.declared.rows.Pointer.{Pointer}
 use Rattle.tree.specs.Trees.{pointer_in, at, digit, on_path}
-use Rattle.tree.specs.Paths.{led, OnlyChild, OtherChild}
-use Rattle.tree.specs.Steps.{HolesBeside, PointerBeside}
+use Rattle.tree.specs.Paths.{HolesBeside, PointerBeside, led, OnlyChild, OtherChild}
 use Rattle.tree.proofs.Places.{path_down}
 use Rattle.tree.proofs.Pointers.{led_child}
 
@@ -21,15 +20,15 @@ HoleUnless part k j = (j ≡ k → ⊥) → pointer_in part j ≡ None
 
 pub holes_beside : (part : List ℕ) (k : ℕ) (r : Bool)
     → MatchBool r ((i : ℕ) × (i < length (range_with_len 0 8)) × HoldsAt (HereBeside part k) (range_with_len 0 8) i) (AllWithin (HoleUnless part k) (range_with_len 0 8) 0 (length (range_with_len 0 8)))
-    → r ≡ false → HolesBeside part k
+    → r ≡ false → HolesBeside (pointer_in part) k
 holes_beside part k true m e = absurd cc
 holes_beside part k false m e = λ j l n. (let at : get_or (range_with_len 0 8) j 0 ≡ 0 + j = get_or-range_with_len 0 8 j 0 l in subst (λ (i : ℕ). HoleUnless part k i) (at ∙ zero-add j) (m j 0 (omega arith) l) n)
 
 -- what the bytes of a block say of what leads to it
-pub only_beside : (mem part : List ℕ) (q : Option Pointer) (k : ℕ) → part ≡ led mem q → HolesBeside part k → OnlyChild mem q k
+pub only_beside : (mem part : List ℕ) (q : Option Pointer) (k : ℕ) → part ≡ led mem q → HolesBeside (pointer_in part) k → OnlyChild mem q k
 only_beside mem part q k e holes = λ j l n. sym (led_child mem q j l) ∙ ap (λ (x : List ℕ). pointer_in x j) (sym e) ∙ holes j l n
 
-pub other_beside : (mem part : List ℕ) (q : Option Pointer) (k : ℕ) → part ≡ led mem q → PointerBeside part k → OtherChild mem q k
+pub other_beside : (mem part : List ℕ) (q : Option Pointer) (k : ℕ) → part ≡ led mem q → PointerBeside (pointer_in part) k → OtherChild mem q k
 other_beside mem part q k e o = record {
   which = o.which;
   small = o.small;
@@ -66,7 +65,7 @@ module _ (mem : List ℕ) (root : Option Pointer) (h p : ℕ) where
 
   pub survey_more : (old : List (Option Pointer)) (part : List ℕ) (k k' d j : ℕ) (next : Option Pointer) (beside : Bool) → h ≤ 4 → d < h
       → Surveying mem root h p old k d → j ≡ digit h p d → part ≡ led mem (get_or old d None) → next ≡ pointer_in part j
-      → (beside ≡ false → HolesBeside part j) → (beside ≡ true → PointerBeside part j)
+      → (beside ≡ false → HolesBeside (pointer_in part) j) → (beside ≡ true → PointerBeside (pointer_in part) j)
       → ((beside ≡ true) × (k' ≡ d + 1)) ⊎ ((beside ≡ false) × (k' ≡ k))
       → Surveying mem root h p (set old (d + 1) next) k' (d + 1)
   survey_more old part k k' d j next beside h4 lt s ej ep en holes other way = ⊎_elim taken left way

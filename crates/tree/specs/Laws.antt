@@ -1,7 +1,7 @@
 -- The laws of block trees.
 --     Frame       a tree whose blocks are unchanged is unchanged
 --     Reroute     replacing a path changes the tree at the places of that path, and nowhere else
-use Rattle.std.specs.Prelude.{◌≡◌, ℕ, suc, ◌+◌, ◌*◌, ◌^◌, ◌<◌, ◌≤◌, cond, List, length, Option, ◌==◌}
+use Rattle.std.specs.Prelude.{◌≡◌, ℕ, suc, ◌+◌, ◌*◌, ◌^◌, ◌<◌, ◌≤◌, if◌then◌else◌, List, length, Option, ◌==◌}
 use Rattle.records.specs.declared.rows.Pointer.{Pointer}
 use Rattle.tree.specs.Trees.{block_size, fan, block, at, index_at, digit, on_path, Reaches}
 use Rattle.tree.specs.Paths.{OnlyChild, Fresh, Rewritten, new_at}
@@ -19,4 +19,4 @@ Reroute = (mem mem' : List ℕ) (root : Option Pointer) (h p : ℕ) (f : ℕ →
     → Fresh mem root h f g k
     → ((d : ℕ) → k ≤ d → d < h → OnlyChild mem (on_path mem root h p d) (digit h p d))
     → Rewritten mem mem' root h p f g k bytes
-    → (d i : ℕ) → d ≤ h → i < fan ^ d → at mem' (new_at f g k 0) d i ≡ cond (i == index_at h p d) (new_at f g k d) (at mem root d i)
+    → (d i : ℕ) → d ≤ h → i < fan ^ d → at mem' (new_at f g k 0) d i ≡ (if i == index_at h p d then new_at f g k d else at mem root d i)

@@ -3,14 +3,15 @@
 --     led mem q                    the bytes of the block that q points to, or holes where q is one
 --     with_pointer bytes k q       the bytes with the pointer q at place k
 --     filled bytes                 the bytes with zero bytes up to a whole block
---     OnlyChild, OtherChild        of the pointers that q leads to, only the k-th may be no hole; another is none
+--     HolesBeside, PointerBeside   of eight pointers only the k-th may be no hole; another is none
+--     OnlyChild, OtherChild        the same of the pointers that q leads to
 --     Stay mem root h p k          k levels of the path to p are still needed once p is a hole
 --     new_at f g k d               what stands at depth d of a path of which k levels are new: block f d, born in g
 --     Fresh                        k blocks that may replace the first k of a path
 --     Short mem f k                one of the first k blocks of a new path does not lie in the memory
 --     Rewritten                    the memory after the path to p was replaced
 --     Surveyed                     the old pointers of a path, and how many of its levels a discard keeps
-use Rattle.std.specs.Prelude.{◌≡◌, ℕ, suc, ◌+◌, ◌-◌, ◌*◌, ◌/◌, ◌%◌, ◌^◌, ◌<◌, ◌≤◌, cond, List, [], ◌∷◌, ◌++◌, length, take, drop, replicate, Some, None, Option, ◌≢◌, nat_lt, slice_index_or}
+use Rattle.std.specs.Prelude.{◌≡◌, ℕ, suc, ◌+◌, ◌-◌, ◌*◌, ◌/◌, ◌%◌, ◌^◌, ◌<◌, ◌≤◌, if◌then◌else◌, List, [], ◌∷◌, ◌++◌, length, take, drop, replicate, Some, None, Option, ◌≢◌, nat_lt, slice_index_or}
 use Rattle.records.specs.declared.rows.Pointer.{Pointer}
 use Rattle.tree.specs.Trees.{block_size, pointer_size, fan, block, child, digit, on_path, Reaches, Outside}
 
@@ -36,17 +37,25 @@ with_pointer bytes k q = take (pointer_size * k) bytes ++ (pointer_bytes q ++ dr
 abbrev pub filled : List ℕ → List ℕ
 filled bytes = bytes ++ replicate (block_size - length bytes) 0
 
--- all that q leads to are holes, but for index k
-abbrev pub OnlyChild : List ℕ → Option Pointer → ℕ → Type 0
-OnlyChild mem q k = (j : ℕ) → j < fan → (j ≢ k) → child mem q j ≡ None
+-- of eight pointers all but the k-th are holes
+abbrev pub HolesBeside : (ℕ → Option Pointer) → ℕ → Type 0
+HolesBeside pointers k = (j : ℕ) → j < fan → (j ≢ k) → pointers j ≡ None
 
--- q leads to a pointer under another index than k
-pub record OtherChild (mem : List ℕ) (q : Option Pointer) (k : ℕ) : Type 0 where
+-- of eight pointers another than the k-th is no hole
+pub record PointerBeside (pointers : ℕ → Option Pointer) (k : ℕ) : Type 0 where
   pub which : ℕ
   pub small : which < fan
   pub other : which ≡ k → ⊥
   pub pointer : Pointer
-  pub here : child mem q which ≡ Some pointer
+  pub here : pointers which ≡ Some pointer
+
+-- all that q leads to are holes, but for index k
+abbrev pub OnlyChild : List ℕ → Option Pointer → ℕ → Type 0
+OnlyChild mem q k = HolesBeside (child mem q) k
+
+-- q leads to a pointer under another index than k
+abbrev pub OtherChild : List ℕ → Option Pointer → ℕ → Type 0
+OtherChild mem q k = PointerBeside (child mem q) k
 
 -- without the data at p, the first k indirect blocks of its path still have a pointer, and those below have holes only
 pub record Stay (mem : List ℕ) (root : Option Pointer) (h p k : ℕ) : Type 0 where
@@ -56,7 +65,7 @@ pub record Stay (mem : List ℕ) (root : Option Pointer) (h p k : ℕ) : Type 0 
 
 -- the pointer that stands at depth d where the first k levels are new: block f d, born in g; a hole below them
 abbrev pub new_at : (ℕ → ℕ) → ℕ → ℕ → ℕ → Option Pointer
-new_at f g k d = cond (nat_lt d k) (Some (record { block = f d; birth = g })) None
+new_at f g k d = if nat_lt d k then Some (record { block = f d; birth = g }) else None
 
 -- k blocks of a memory, none twice and none reached, for a path in group g
 pub record Fresh (mem : List ℕ) (root : Option Pointer) (h : ℕ) (f : ℕ → ℕ) (g k : ℕ) : Type 0 where

@@ -1,12 +1,10 @@
 -- What the inner functions leave.
 --     LeadsOut mem q          the pointer q leads to a block outside the memory
 --     Put mem mem' n bytes    block n now holds the bytes, and the other blocks are as they were
---     HolesBeside part k      all pointers of an indirect block but the k-th are holes
---     PointerBeside part k    an indirect block has a pointer at another place than k
 --     Linked                  the first d blocks of a new path are written, and no others
-use Rattle.std.specs.Prelude.{◌≡◌, ℕ, suc, ◌<◌, List, length, Some, None, Option, ◌≢◌}
+use Rattle.std.specs.Prelude.{◌≡◌, ℕ, suc, ◌<◌, List, length, Some, Option, ◌≢◌}
 use Rattle.records.specs.declared.rows.Pointer.{Pointer}
-use Rattle.tree.specs.Trees.{fan, block, pointer_in, digit, on_path, Outside}
+use Rattle.tree.specs.Trees.{block, digit, on_path, Outside}
 use Rattle.tree.specs.Paths.{led, with_pointer, new_at}
 
 abbrev pub LeadsOut : List ℕ → Option Pointer → Type 0
@@ -16,16 +14,6 @@ pub record Put (mem mem' : List ℕ) (n : ℕ) (bytes : List ℕ) : Type 0 where
   pub len : length mem' ≡ length mem
   pub here : block mem' n ≡ bytes
   pub off : (b : ℕ) → (b ≢ n) → block mem' b ≡ block mem b
-
-abbrev pub HolesBeside : List ℕ → ℕ → Type 0
-HolesBeside part k = (j : ℕ) → j < fan → (j ≢ k) → pointer_in part j ≡ None
-
-pub record PointerBeside (part : List ℕ) (k : ℕ) : Type 0 where
-  pub which : ℕ
-  pub small : which < fan
-  pub other : which ≡ k → ⊥
-  pub pointer : Pointer
-  pub here : pointer_in part which ≡ Some pointer
 
 pub record Linked (mem mem' : List ℕ) (root : Option Pointer) (h p : ℕ) (f : ℕ → ℕ) (g k d : ℕ) : Type 0 where
   pub len : length mem' ≡ length mem

@@ -12,7 +12,7 @@
 --     Reaches mem root h b        a tree of height h has a pointer to block b
 --     Outside mem b               block b does not lie in the memory
 --     Lost mem root h             a block that the tree reaches does not lie in the memory
-use Rattle.std.specs.Prelude.{◌≡◌, ℕ, zero, suc, ◌+◌, ◌-◌, ◌*◌, ◌/◌, ◌%◌, ◌^◌, ◌<◌, ◌≤◌, cond, List, length, take, drop, Some, None, Option, ◌==◌, slice_index}
+use Rattle.std.specs.Prelude.{◌≡◌, ℕ, zero, suc, ◌+◌, ◌-◌, ◌*◌, ◌/◌, ◌%◌, ◌^◌, ◌<◌, ◌≤◌, if◌then◌else◌, List, length, take, drop, Some, None, Option, ◌==◌, slice_index}
 use Rattle.records.specs.declared.rows.Pointer.{Pointer}
 
 -- a block has 64 bytes, a pointer 8, and an indirect block 8 pointers
@@ -35,7 +35,7 @@ word_at bytes i = slice_index bytes i * 2 ^ 24 + slice_index bytes (i + 1) * 2 ^
 
 -- a pointer to block b, born in group g; two zeros are a hole
 abbrev pub pointer_of : ℕ → ℕ → Option Pointer
-pointer_of b g = cond (b + g == 0) None (Some (record { block = b; birth = g }))
+pointer_of b g = if b + g == 0 then None else Some (record { block = b; birth = g })
 
 -- the pointer at place k of an indirect block: a block number, then a birth
 unfoldable pub pointer_in : List ℕ → ℕ → Option Pointer

@@ -1,5 +1,5 @@
 // Blocks in lent memory, and pointers in the bytes of a block. A block is read where it lies, with no copy. The memory
-// is a slice at each call: a struct over it would have to be two, since readers share it and writers do not.
+// is a slice at each call and no struct around one, so that a caller who only reads may share it.
 ghost use Rattle.std.specs.Prelude.{◌≡◌, ◌+◌, ◌*◌, ◌<◌, ◌≤◌, ◌⊎◌, length, MatchResult, OnErr};
 ghost use Rattle.std.specs.List.{flat_map};
 ghost use Rattle.faults.specs.declared.PoolCause.TheVariants.{NoPool};

@@ -2,9 +2,8 @@
 ghost use Rattle.std.specs.Prelude.{◌≡◌, ◌+◌, ◌^◌, ◌<◌, ◌≤◌, true, false, length, IfErr, MatchResult};
 ghost use Rattle.faults.specs.declared.PoolCause.TheVariants.{NoPool};
 ghost use Rattle.tree.specs.Calls.{InRange, Links, Rewrites, Spares, taken};
-ghost use Rattle.tree.specs.Paths.{new_at, Surveyed};
-ghost use Rattle.tree.specs.Steps.{HolesBeside, PointerBeside};
-ghost use Rattle.tree.specs.Trees.{at, block_size, digit, fan, Lost};
+ghost use Rattle.tree.specs.Paths.{HolesBeside, new_at, PointerBeside, Surveyed};
+ghost use Rattle.tree.specs.Trees.{at, block_size, digit, fan, Lost, pointer_in};
 
 use crate::memory::{
     BLOCK_BYTES, FAN, copy_with, decode, filled_block, load, read_block, store_block,
@@ -85,8 +84,8 @@ pub fn descend(
 
 // Whether an indirect block has a pointer at another place.
 fn has_other(bytes: &[u8; BLOCK_BYTES], place: usize) -> bool
-    ensures holes { result ≡ false → HolesBeside bytes.now place }
-    ensures other { result ≡ true → PointerBeside bytes.now place }
+    ensures holes { result ≡ false → HolesBeside (pointer_in bytes.now) place }
+    ensures other { result ≡ true → PointerBeside (pointer_in bytes.now) place }
 {
     (0..FAN as usize).any(|other| other != place && decode(bytes, other).is_some())
 }
@@ -101,7 +100,7 @@ pub fn survey(memory: &[u8], root: Option<Pointer>, path: Path) -> Result<Route,
     let mut old = [None; LEVELS];
     old[0] = root;
     let mut kept = 0;
-    // Each step reads one place and writes the next, which no iterator lends together.
+    // By index: of an array that an iterator wrote a proof knows the length alone.
     for depth in 0..path.height as usize {
         let place = path.digit(depth);
         let bytes = load(memory, old[depth])?;
