@@ -3,7 +3,7 @@ ghost use Rattle.std.specs.Prelude.{Bool, nat_lt};
 ghost use Rattle.std.proofs.Common.{rules};
 ghost use Rattle.ordered.specs.Order.{IsStrictPart};
 
-// A kind of key. `below` is its order, as a test, and `cmp` answers by it.
+// A kind of key. `below` is its order, as the test that the definitions of tables take, and `cmp` answers by it.
 pub trait Key: Ord + Copy {
     ghost below: { Self → Self → Bool };
 
