@@ -58,10 +58,12 @@ above_at lo n [] i d e h = absurd (omega arith)
 above_at lo n (x ∷ xs) zero d e h = (parts lo n x xs e).low
 above_at lo n (x ∷ xs) (suc i) d e h = let p = parts lo n x xs e in omega (arith, p.low, above_at (x.first + x.length + 1) n xs i d p.rest (omega arith))
 
+-- a block at least lies between the firsts of two
+pub spaced : (lo n : ℕ) (xs : List FreeRange) (i j : ℕ) (d : FreeRange) → apart lo n xs ≡ true → i < j → j < length xs → (get_or xs i d).first + 1 < (get_or xs j d).first
+spaced lo n [] i j d e lt h = absurd (omega arith)
+spaced lo n (x ∷ xs) i zero d e lt h = absurd (omega arith)
+spaced lo n (x ∷ xs) zero (suc j) d e lt h = let p = parts lo n x xs e in omega (arith, p.some, above_at (x.first + x.length + 1) n xs j d p.rest (omega arith))
+spaced lo n (x ∷ xs) (suc i) (suc j) d e lt h = spaced (x.first + x.length + 1) n xs i j d (parts lo n x xs e).rest (omega arith) (omega arith)
+
 pub rises : (lo n : ℕ) (xs : List FreeRange) → apart lo n xs ≡ true → Ascending first_of (Holds first_below) xs
-rises lo n [] e i j d lt h = absurd (omega arith)
-rises lo n (x ∷ xs) e i zero d lt h = absurd (omega arith)
-rises lo n (x ∷ xs) e zero (suc j) d lt h =
-    let p = parts lo n x xs e in
-    lt-ltb x.first (get_or xs j d).first (omega (arith, above_at (x.first + x.length + 1) n xs j d p.rest (omega arith)))
-rises lo n (x ∷ xs) e (suc i) (suc j) d lt h = rises (x.first + x.length + 1) n xs (parts lo n x xs e).rest i j d (omega arith) (omega arith)
+rises lo n xs e i j d lt h = lt-ltb (get_or xs i d).first (get_or xs j d).first (omega (arith, spaced lo n xs i j d e lt h))

@@ -1,19 +1,21 @@
 -- The steps of a take and a give, on maximal ranges and on the table that holds them. Assumes nothing.
-use Rattle.std.proofs.Common.{◌≡◌, ℕ, ◌+◌, ◌-◌, ◌<◌, ◌≤◌, Bool, true, false, not, ◌&&◌, ◌||◌, ltb, ◌⊎◌, List, length, get_or, is_some, Some, None, Option, Ok, Result, sym, refl, ap, ◌∙◌, subst, inl, inr, ⊎_elim, arith}
-use Rattle.std.proofs.lemmas.Bool.{both_ways, cases_eq, cases_lt, cond-true, cond-false, or_parts, or_from, or_left, and_parts, and_right, and_from, not-true, lt-ltb, ltb-true}
+use Rattle.std.proofs.Common.{◌≡◌, ℕ, ◌+◌, ◌-◌, ◌<◌, ◌≤◌, Bool, true, false, if◌then◌else◌, not, ◌&&◌, ◌||◌, eqb, ltb, leb, ◌⊎◌, List, length, get_or, drop, is_some, Some, None, Option, Ok, Result, sym, refl, ap, ◌∙◌, subst, inl, inr, ⊎_elim, arith}
+use Rattle.std.proofs.lemmas.List.{drop-drop}
+use Rattle.std.proofs.lemmas.Bool.{cases_eq, cases_lt, cond-true, cond-false, or_parts, or_from, or_left, or_right, and_parts, and_right, and_from, not-true, eq-eqb, le-leb, lt-ltb, ltb-true}
 use Rattle.std.proofs.lemmas.Bool.Decides.{nat_tests}
-use Rattle.ordered.specs.Lent.{Ordered, records, room}
-use Rattle.ordered.specs.Tables.{answer, after}
+use Rattle.std.proofs.lemmas.Option.{none-some}
+use Rattle.ordered.specs.Lent.{KeptPast, Ordered, records, room}
+use Rattle.ordered.specs.Tables.{answer, after, fits_at, fits_over}
 use Rattle.ordered.specs.declared.tables.Table.{Table}
 use Rattle.ordered.specs.declared.tables.InsertError.{InsertError}
 use Rattle.ordered.proofs.Lookups.{found, missing}
 use Rattle.records.specs.Keys.{first_of, first_below}
 use Rattle.records.specs.declared.ranges.FreeRange.{FreeRange}
 use Rattle.blocks.specs.Sets.{Joins}
-use Rattle.ranges.specs.Ranges.{within, in_some, apart, held, at_block, range_at, without, long, Reaches, rest_of, joined}
-use Rattle.ranges.specs.Steps.{Regular, Clear, Cut, Fitting, Put, Changed}
-use Rattle.ranges.proofs.Apart.{at_most_half, rises}
-use Rattle.ranges.proofs.Laws.{Out, In, cases_option, place_at, with_range, over_range, removes, removes_none, adds, absent, begins, swapped}
+use Rattle.ranges.specs.Ranges.{needed, within, in_some, apart, held, at_block, range_at, without, long, Reaches, rest_of, joined}
+use Rattle.ranges.specs.Steps.{Regular, Clear, Cut, Rest}
+use Rattle.ranges.proofs.Apart.{at_most_half, rises, spaced}
+use Rattle.ranges.proofs.Laws.{Out, cases_option, place_at, with_range, over_range, same_first, removes, removes_none, adds, absent, begins, swapped}
 
 -- an owned block is below the size and in no range
 pub owned_parts : (n k : ℕ) (rs : List FreeRange) → held n rs k ≡ true → (k < n) × (in_some rs k ≡ false)
@@ -34,68 +36,82 @@ in_order n t s = rises 0 n (records t) s.maximal
 pub untouched : (n k : ℕ) (xs : List FreeRange) → apart 0 n xs ≡ true → in_some xs k ≡ false → without xs k ≡ xs
 untouched n k xs e out = (missing first_of first_below xs (at_block k) (absent 0 n k xs e out)).less
 
--- a range put in the place of the one that begins at block b, if any
-module _ (n b : ℕ) (t : Table FreeRange) (r : FreeRange) (s : Regular n t) (f : Fitting n (without (records t) b) r) where
-  left_apart : apart 0 n (without (records t) b) ≡ true
-  left_apart = go (cases_option (range_at (records t) b))
+-- what stands past the records of u stands past the places that they can need
+pub rest_past : (n : ℕ) (t u : Table FreeRange) → apart 0 n (records u) ≡ true → KeptPast t u → Rest n t u
+rest_past n t u e past =
+    let l : ℕ = length (records u) in
+    let half = at_most_half n (records u) e in
+    let more : l + (needed n - l) ≡ needed n = omega arith in
+    ap (λ (m : ℕ). drop m u.places.now) (sym more) ∙ sym (drop-drop (needed n - l) l u.places.now) ∙ ap (drop (needed n - l)) past
+    ∙ drop-drop (needed n - l) l t.places.now ∙ ap (λ (m : ℕ). drop m t.places.now) more
+
+-- the range r can stand beside rs
+pub record Fitting (n : ℕ) (rs : List FreeRange) (r : FreeRange) : Type 0 where
+  pub some : 0 < r.length
+  pub high : r.first + r.length ≤ n
+  pub clear : Clear rs r
+
+-- the table u holds the ranges rs and r, and past them what t holds
+pub record Put (n : ℕ) (t : Table FreeRange) (rs : List FreeRange) (u : Table FreeRange) (r : FreeRange) : Type 0 where
+  pub items : records u ≡ with_range rs r
+  pub regular : Regular n u
+  pub blocks : (k : ℕ) → in_some (records u) k ≡ (within r k || in_some rs k)
+  pub rest : Rest n t u
+
+-- a range that begins at most a block earlier or later than the one at i stays between the same two
+stays : (n b : ℕ) (xs : List FreeRange) (r : FreeRange) (i : ℕ) (d : FreeRange) → apart 0 n xs ≡ true → place_at xs b ≡ Some i → r.first ≤ b + 1 → b ≤ r.first + 1
+    → fits_at first_of first_below xs d (first_of r) i ≡ true
+stays n b xs r i d e at high low = and_from _ _ (above (cases_eq i 0)) (under (cases_lt (i + 1) (length xs)))
+  where
+    here : (i < length xs) × ((get_or xs i d).first ≡ b)
+    here = let f = found first_of first_below xs (at_block b) i at in (f.within, same_first (get_or xs i d) b (f.here d))
+
+    above : (i ≡ 0) ⊎ (i ≡ 0 → ⊥) → (eqb i 0 || ltb (get_or xs (i - 1) d).first r.first) ≡ true
+    above (inl first) = or_left _ _ (eq-eqb i 0 first)
+    above (inr later) = or_right _ _ (lt-ltb (get_or xs (i - 1) d).first r.first (omega (arith, here.1, spaced 0 n xs (i - 1) i d e (omega arith) here.0)))
+
+    under : (i + 1 < length xs) ⊎ (length xs ≤ i + 1) → (leb (length xs) (i + 1) || ltb r.first (get_or xs (i + 1) d).first) ≡ true
+    under (inl more) = or_right _ _ (lt-ltb r.first (get_or xs (i + 1) d).first (omega (arith, here.1, spaced 0 n xs i (i + 1) d e (omega arith) more)))
+    under (inr last) = or_left _ _ (le-leb (length xs) (i + 1) last)
+
+-- the calls of the table that put a range in: t became u
+module _ (n : ℕ) (t u : Table FreeRange) (r : FreeRange) (s : Regular n t) (same : room u ≡ room t) (past : KeptPast t u) where
+  put : (rs : List FreeRange) → apart 0 n rs ≡ true → Fitting n rs r → records u ≡ with_range rs r → Put n t rs u r
+  put rs e f items =
+      let more = adds 0 n rs r e (omega arith) f.some f.high f.clear in
+      let stands : apart 0 n (records u) ≡ true = ap (apart 0 n) items ∙ more.stands in
+      record {
+        items = items;
+        regular = record { few = s.few; places = omega (arith, s.places); maximal = stands };
+        blocks = λ k. ap (λ (l : List FreeRange). in_some l k) items ∙ more.blocks k;
+        rest = rest_past n t u stands past;
+      }
+
+  -- in the place of the one that begins where it does
+  pub replaces : (old : FreeRange) → range_at (records t) r.first ≡ Some old → Fitting n (without (records t) r.first) r → records u ≡ over_range (records t) r
+      → Put n t (without (records t) r.first) u r
+  replaces old there f items = put _ (removes 0 n r.first (records t) old s.maximal there).stands f (items ∙ swapped 0 n (records t) old r s.maximal there)
+
+  -- in the place of the one that begins at b, which the table never refuses
+  pub rekeys : (b : ℕ) (old : FreeRange) (a : Bool) → range_at (records t) b ≡ Some old → r.first ≤ b + 1 → b ≤ r.first + 1 → Fitting n (without (records t) b) r
+      → ((d : FreeRange) → a ≡ fits_over first_of first_below (records t) d (first_of r) (place_at (records t) b)) → records u ≡ (if a then with_range (without (records t) b) r else records t)
+      → Put n t (without (records t) b) u r
+  rekeys b old a there high low f value items = go (cases_option (place_at (records t) b))
     where
-      go : (range_at (records t) b ≡ None) ⊎ ((x : FreeRange) × (range_at (records t) b ≡ Some x)) → apart 0 n (without (records t) b) ≡ true
-      go (inl none) = ap (apart 0 n) (removes_none b (records t) none) ∙ s.maximal
-      go (inr (x, e)) = (removes 0 n b (records t) x s.maximal e).stands
+      go : (place_at (records t) b ≡ None) ⊎ ((i : ℕ) × (place_at (records t) b ≡ Some i)) → Put n t (without (records t) b) u r
+      go (inl none) = absurd (none-some old (sym (missing first_of first_below (records t) (at_block b) none).entry ∙ there))
+      go (inr (i, at)) =
+          let answer : a ≡ true = value old ∙ ap (fits_over first_of first_below (records t) old (first_of r)) at ∙ stays n b (records t) r i old s.maximal at high low in
+          put _ (removes 0 n b (records t) old s.maximal there).stands f (items ∙ cond-true _ _ _ answer)
 
-  put_there : In 0 n (without (records t) b) (with_range (without (records t) b) r) r
-  put_there = adds 0 n (without (records t) b) r left_apart (omega arith) f.some f.high f.clear
-
-  -- at once
-  pub changed_there : (u : Table FreeRange) → room u ≡ room t → records u ≡ with_range (without (records t) b) r → Changed n t b u r
-  changed_there u same e = record {
-    regular = record { few = s.few; places = omega (arith, s.places); maximal = ap (apart 0 n) e ∙ put_there.stands };
-    blocks = λ k. ap (λ (l : List FreeRange). in_some l k) e ∙ put_there.blocks k;
-  }
-
-  -- by a step out and a step in
-  module _ (u : Table FreeRange) (same : room u ≡ room t) (gone : records u ≡ without (records t) b) where
-    pub left_regular : Regular n u
-    left_regular = record { few = s.few; places = omega (arith, s.places); maximal = ap (apart 0 n) gone ∙ left_apart }
-
-    left_alone : without (records u) r.first ≡ without (records t) b
-    left_alone = ap (λ (l : List FreeRange). without l r.first) gone ∙ untouched n r.first (without (records t) b) left_apart (f.clear r.first (omega arith) (omega arith))
-
-    pub left_fits : Fitting n (without (records u) r.first) r
-    left_fits = subst (λ (l : List FreeRange). Fitting n l r) (sym left_alone) f
-
-    pub changed_after : (v : Table FreeRange) → Put n u v r → Changed n t b v r
-    changed_after v put = record { regular = put.regular; blocks = λ k. put.blocks k ∙ ap (λ (l : List FreeRange). within r k || in_some l k) left_alone }
-
--- a range put in the place of the one that begins where it does, or among the others
-module _ (n : ℕ) (t : Table FreeRange) (r : FreeRange) (s : Regular n t) where
-  there : (i : ℕ) → place_at (records t) r.first ≡ Some i → range_at (records t) r.first ≡ Some (get_or (records t) i r)
-  there i e = (found first_of first_below (records t) (first_of r) i e).entry r
-
-  module _ (f : Fitting n (without (records t) r.first) r) where
-    pub in_place : (u : Table FreeRange) → room u ≡ room t → true ≡ is_some (place_at (records t) r.first) → records u ≡ over_range (records t) r → Put n t u r
-    in_place u same is e = go (cases_option (place_at (records t) r.first))
-      where
-        go : (place_at (records t) r.first ≡ None) ⊎ ((i : ℕ) × (place_at (records t) r.first ≡ Some i)) → Put n t u r
-        go (inl none) = absurd (both_ways true (is ∙ ap is_some none) refl)
-        go (inr (i, at)) = changed_there n r.first t r s f u same (e ∙ swapped 0 n (records t) (get_or (records t) i r) r s.maximal (there i at))
-
-    -- a place is always left
-    pub among : (v u : Table FreeRange) (a : Result (Unit {0}) InsertError) → room v ≡ room t → room u ≡ room v → false ≡ is_some (place_at (records t) r.first) → records v ≡ over_range (records t) r
-        → a ≡ answer first_of first_below (room v) (records v) r → records u ≡ after first_of first_below (records v) r a → Put n t u r
-    among v u a same-v same-u is kept value items = go (cases_option (place_at (records t) r.first))
-      where
-        go : (place_at (records t) r.first ≡ None) ⊎ ((i : ℕ) × (place_at (records t) r.first ≡ Some i)) → Put n t u r
-        go (inr (i, at)) = absurd (both_ways true (sym (is ∙ ap is_some at)) refl)
-        go (inl none) =
-            let m = missing first_of first_below (records t) (first_of r) none in
-            let e : records v ≡ records t = kept ∙ m.over r refl in
-            let half = at_most_half n (with_range (without (records t) r.first) r) (put_there n r.first t r s f).stands in
-            let more = (put_there n r.first t r s f).longer in
-            let shorter : length (without (records t) r.first) ≡ length (records t) = ap length m.less in
-            let left : length (records v) < room v = omega (arith, ap length e, s.places) in
-            let placed : a ≡ Ok tt = value ∙ cond-false _ _ _ (ap (λ (l : List FreeRange). is_some (place_at l r.first)) e ∙ ap is_some none) ∙ cond-true _ _ _ (lt-ltb (length (records v)) (room v) left) in
-            changed_there n r.first t r s f u (same-u ∙ same-v) (items ∙ ap (after first_of first_below (records v) r) placed ∙ ap (λ (l : List FreeRange). with_range l r) (e ∙ sym m.less))
+  -- among the others: a place is always left
+  pub inserts : (a : Result (Unit {0}) InsertError) → Fitting n (records t) r → a ≡ answer first_of first_below (room t) (records t) r → records u ≡ after first_of first_below (records t) r a → Put n t (records t) u r
+  inserts a f value items =
+      let none = absent 0 n r.first (records t) s.maximal (f.clear r.first (omega arith) (omega arith)) in
+      let more = adds 0 n (records t) r s.maximal (omega arith) f.some f.high f.clear in
+      let left : length (records t) < room t = omega (arith, at_most_half n (with_range (records t) r) more.stands, more.longer, s.places) in
+      let placed : a ≡ Ok tt = value ∙ cond-false _ _ _ (ap is_some none) ∙ cond-true _ _ _ (lt-ltb (length (records t)) (room t) left) in
+      put (records t) s.maximal f (items ∙ ap (after first_of first_below (records t) r) placed)
 
 -- a range cut out, or an empty one
 pub cut_none : (n f : ℕ) (xs : List FreeRange) → apart 0 n xs ≡ true → f ≤ n → Clear xs (record { first = f; length = 0 }) → Cut n xs xs (record { first = f; length = 0 })

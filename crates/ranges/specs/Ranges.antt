@@ -1,4 +1,5 @@
 -- Free ranges of blocks, kept by their first block. Assumes nothing.
+--     needed n            how many places n blocks need
 --     within r k          block k lies in the range r
 --     in_some rs k        block k lies in one of the ranges
 --     apart low n rs      the ranges stand apart: from block low on and below n, ascending, none empty, none adjacent
@@ -11,6 +12,7 @@
 --     has o k, long o     whether the range o holds block k, and its length: no and 0 where there is none
 --     reach o k           the length of the range o where it ends right before block k, else 0
 --     Reaches rs k l      so long is the range that ends right before block k; 0 where none does
+--     all n               the range of all n blocks
 --     rest_of r           the range without its first block
 --     joined l k r        block k with l blocks before it and r after it
 --     Longest rs r        r is the longest of the ranges, the lowest among equals
@@ -22,6 +24,10 @@ use Rattle.ordered.specs.Tables.{record_of, without_key}
 use Rattle.records.specs.Keys.{first_of, first_below}
 use Rattle.records.specs.declared.ranges.FreeRange.{FreeRange}
 use Rattle.records.specs.declared.ranges.FirstBlock.{FirstBlock}
+
+-- a place for every second block
+abbrev pub needed : ℕ → ℕ
+needed n = (n + 1) / 2
 
 -- from its first block on, as many as its length
 abbrev pub within : FreeRange → ℕ → Bool
@@ -84,6 +90,10 @@ pub record Reaches (rs : List FreeRange) (k l : ℕ) : Type 0 where
   pub some : 0 < l → range_at rs (k - l) ≡ Some (record { first = k - l; length = l })
   pub none : l ≡ 0 → (j : ℕ) → j + 1 ≡ k → in_some rs j ≡ false
 
+-- from block 0 on
+abbrev pub all : ℕ → FreeRange
+all n = record { first = 0; length = n }
+
 -- one block later, and one block less
 abbrev pub rest_of : FreeRange → FreeRange
 rest_of r = record { first = r.first + 1; length = r.length - 1 }
@@ -96,6 +106,6 @@ joined l k r = record { first = k - l; length = l + 1 + r }
 abbrev pub Longest : List FreeRange → FreeRange → Type 0
 Longest rs r = (i : ℕ) × IsFirstMaxByKey (λ (x : FreeRange). x.length) rs (length rs) i × ((d : FreeRange) → slice_index_or rs i d ≡ r)
 
--- the size is from 1 to the largest, and there are places for every second block
+-- the size is from 1 to the largest, and there are the places that it needs
 abbrev pub Suits : ℕ → ℕ → Type 0
-Suits n places = SizeFits n ((n + 1) / 2) places
+Suits n places = SizeFits n (needed n) places

@@ -3,8 +3,8 @@
 // more field into every clause.
 ghost use Rattle.std.specs.Prelude.{◌≡◌, ℕ, ◌+◌, ◌<◌, true, length, Some, MatchOption};
 ghost use Rattle.ordered.specs.Lent.{records};
-ghost use Rattle.ranges.specs.Ranges.{held, range_at, without, last_before, Longest};
-ghost use Rattle.ranges.specs.Steps.{Regular, Fitting, Put, Changed, CutAfter, Took, PutsBack};
+ghost use Rattle.ranges.specs.Ranges.{held, range_at, last_before, Longest};
+ghost use Rattle.ranges.specs.Steps.{Regular, CutAfter, Took, PutsBack};
 
 use crate::range::{is_longer, join, length_of, rest};
 use ordered::tables::Table;
@@ -27,33 +27,13 @@ pub(crate) fn last_up_to(ranges: &Table<FreeRange>, n: u32) -> Option<FreeRange>
     Some(ranges.records()[at])
 }
 
-// Puts the range in the place of the one that begins where it does, or else among the others. There is always a place
-// for it.
-pub(crate) fn put(ranges: &mut Table<FreeRange>, range: FreeRange)
-    ensures after { (m : ℕ) → Regular m ranges.old → Fitting m (without (records ranges.old) range.first) range → Put m ranges.old ranges.new range }
-{
-    if !ranges.replace(range) {
-        let _ = ranges.insert(range);
-    }
-}
-
-// Puts the range in the place of the one that begins at block `first`, if any. Where it stays between the same two
-// ranges, no other is moved.
-fn change(ranges: &mut Table<FreeRange>, first: u32, new: FreeRange)
-    ensures after { (m : ℕ) → Regular m ranges.old → Fitting m (without (records ranges.old) first) new → Changed m ranges.old first ranges.new new }
-{
-    if !ranges.rekey(FirstBlock(first), new) {
-        let _ = ranges.remove(FirstBlock(first));
-        put(ranges, new);
-    }
-}
-
-// Takes the first block off a range of the table.
+// Takes the first block off a range of the table. A range that is left stays between the same two, so that no other is
+// moved.
 pub(crate) fn take_first(ranges: &mut Table<FreeRange>, range: FreeRange)
     ensures after { (m : ℕ) → Regular m ranges.old → range_at (records ranges.old) range.first ≡ Some range → Took m ranges.old range.first ranges.new }
 {
     if range.length > 1 {
-        change(ranges, range.first, rest(range));
+        let _ = ranges.rekey(FirstBlock(range.first), rest(range));
     } else {
         let _ = ranges.remove(FirstBlock(range.first));
     }
@@ -66,17 +46,25 @@ fn cut_after(ranges: &mut Table<FreeRange>, n: u32) -> u32
     length_of(ranges.remove(FirstBlock(n.saturating_add(1))))
 }
 
-// Puts block n, which is owned, back among the free ones, where no range ends right before it.
+// Puts block n, which is owned, back among the free ones, where no range ends right before it. A range that begins right
+// after it takes it in and stays between the same two; else the block is a range of its own, for which there is always a
+// place.
 fn put_first(ranges: &mut Table<FreeRange>, n: u32)
     ensures after { PutsBack ranges.old n 0 ranges.new }
 {
-    let next = n.saturating_add(1);
-    let right = length_of(ranges.get(FirstBlock(next)));
-    change(ranges, next, join(0, n, right));
+    let next = FirstBlock(n.saturating_add(1));
+    match ranges.get(next) {
+        Some(right) => {
+            let _ = ranges.rekey(next, join(0, n, right.length));
+        }
+        None => {
+            let _ = ranges.insert(join(0, n, 0));
+        }
+    }
 }
 
 // Puts block n, which is owned, back among the free ones. `left` is the length of the range that ends right before it,
-// or 0 where none does.
+// which then grows in its place, or 0 where none does.
 pub(crate) fn put_back(ranges: &mut Table<FreeRange>, left: u32, n: u32)
     ensures after { PutsBack ranges.old n left ranges.new }
 {
@@ -84,6 +72,6 @@ pub(crate) fn put_back(ranges: &mut Table<FreeRange>, left: u32, n: u32)
         put_first(ranges, n);
     } else {
         let right = cut_after(ranges, n);
-        put(ranges, join(left, n, right));
+        let _ = ranges.replace(join(left, n, right));
     }
 }

@@ -1,13 +1,15 @@
 // An allocator that keeps the maximal ranges of its free blocks, in a table over ranges that the caller lends: no range
 // is empty, no two are adjacent. A take is the first block of the longest range, the lowest among equals; a block that
-// is given back joins the ranges on either side of it. A take looks at each range once. A give and the question whether
-// a block is owned search by halving; a give then puts one range in, or another in its place, and takes out at most one.
+// is given back joins the ranges on either side of it. A take looks at each range once; a give and the question whether
+// a block is owned search by halving. A range that grows or shrinks keeps its place in the table, so that a call moves
+// one run of ranges at most, those past a range that comes or goes.
 //
 // Proved of a map that only its own calls have changed: it does what an allocator's calls do, and stays such a map; a
 // take answers the first block of the longest run of free blocks, the lowest among equals; a give always has a place for
-// its range, since at most (size + 1) / 2 ranges stand apart; the number of free blocks is kept. A new map owns nothing,
-// whatever the ranges held, and one that was refused has size 0. Proved of any map, whatever its ranges hold: every call
-// returns.
+// its range, since at most (size + 1) / 2 ranges stand apart; the number of free blocks is kept; a range that grows or
+// shrinks stays between the same two; the lent ranges past the first (size + 1) / 2 are not touched. A new map owns
+// nothing, whatever the ranges held, and writes the first of them alone; one that was refused has size 0 and writes none.
+// Proved of any map, whatever its ranges hold: every call returns.
 #![tactic(auto)]
 
 ghost use Rattle.ranges.specs.Runs.{RangesAreRuns};

@@ -1,8 +1,8 @@
-// Questions about a free range, and the ranges that come of taking its first block or giving one back beside it. Each
-// answers on any range, also on one that no map holds. A length is 0 where there is no range, since `join` adds it up.
-// They are functions, as `FreeRange` is another crate's.
+// Questions about a free range, the range of all blocks, and the ranges that come of taking a range's first block or
+// giving one back beside it. Each answers on any range, also on one that no map holds. A length is 0 where there is no
+// range, since `join` adds it up. They are functions, as `FreeRange` is another crate's.
 ghost use Rattle.std.specs.Prelude.{◌≡◌, ◌+◌, ◌^◌, ◌<◌, not, ◌&&◌, ◌==◌, nat_lt};
-ghost use Rattle.ranges.specs.Ranges.{within, has, long, reach, rest_of, joined};
+ghost use Rattle.ranges.specs.Ranges.{within, has, long, reach, all, rest_of, joined};
 
 use records::ranges::FreeRange;
 
@@ -46,6 +46,16 @@ pub(crate) fn length_of(after: Option<FreeRange>) -> u32
     ensures value { result ≡ long after }
 {
     after.map_or(0, |range| range.length)
+}
+
+// The range of all blocks.
+pub(crate) fn whole(size: u32) -> FreeRange
+    ensures value { result ≡ all size }
+{
+    FreeRange {
+        first: 0,
+        length: size,
+    }
 }
 
 // The range without its first block.

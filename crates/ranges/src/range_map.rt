@@ -1,10 +1,11 @@
 // A map of free ranges, and its calls.
-ghost use Rattle.std.specs.Prelude.{◌≡◌, ℕ, false, length};
-ghost use Rattle.blocks.specs.Meanings.{Taking};
+ghost use Rattle.std.specs.Prelude.{◌≡◌, ℕ, false};
+ghost use Rattle.blocks.specs.Meanings.{Giving, Taking};
 ghost use Rattle.ranges.specs.Maps.{map_of, Makes, Sound, TakesLongest};
+ghost use Rattle.ranges.specs.Steps.{Rest};
 
-use crate::free::{last_up_to, longest, put, put_back, take_first};
-use crate::range::{is_out, left_of};
+use crate::free::{last_up_to, longest, put_back, take_first};
+use crate::range::{is_out, left_of, whole};
 use blocks::{BlockAllocator, NotOwned, check_size};
 use faults::MemoryCause;
 use ordered::tables::Table;
@@ -20,11 +21,11 @@ pub struct RangeMap<'m> {
 }
 
 impl<'m> RangeMap<'m> {
-    // A map that owns nothing, whatever the places held; where it is refused, of size 0. A pair, and no `Result` of a
-    // map, since a refused one is an allocator too.
-    #[tactic(auto, using(crate::proofs::Maps::empty_regular, crate::proofs::Maps::all_fits, crate::proofs::Maps::owns_none, crate::proofs::Maps::new_sound))]
+    // A map that owns nothing, whatever the places held, and writes the first of them alone; where it is refused, of
+    // size 0, and it writes none. A pair, and no `Result` of a map, since a refused one is an allocator too.
+    #[tactic(auto, using(crate::proofs::Maps::new_map))]
     pub fn new(places: &'m mut [FreeRange], size: u32) -> (RangeMap<'m>, Result<(), MemoryCause>)
-        ensures made { Makes size (length places.old) result.0 result.1 }
+        ensures made { Makes size places.old result.0 result.1 }
         ensures empty { (k : ℕ) → (map_of result.0).owns k ≡ false }
         ensures sound { Sound result.0 }
     {
@@ -32,11 +33,7 @@ impl<'m> RangeMap<'m> {
         let size = made.map_or(0, |()| size);
         let mut ranges = Table::new(places);
         if size > 0 {
-            let all = FreeRange {
-                first: 0,
-                length: size,
-            };
-            put(&mut ranges, all);
+            let _ = ranges.insert(whole(size));
         }
         let map = RangeMap {
             ranges,
@@ -71,6 +68,7 @@ impl BlockAllocator for RangeMap<'_> {
         ensures takes { Sound self.old → Taking (map_of self.old) (map_of self.new) result }
         ensures sound { Sound self.old → Sound self.new }
         ensures longest { Sound self.old → TakesLongest self.old result }
+        ensures rest { Sound self.old → Rest self.old.size self.old.ranges self.new.ranges }
     {
         let range = longest(self.ranges.records()).ok_or(MemoryCause::BlocksShort)?;
         take_first(&mut self.ranges, range);
@@ -79,7 +77,11 @@ impl BlockAllocator for RangeMap<'_> {
     }
 
     #[tactic(auto, using(crate::proofs::Maps::looked, crate::proofs::Maps::gave, crate::proofs::Maps::gave_sound))]
-    fn give(&mut self, n: u32) -> Result<(), NotOwned> {
+    fn give(&mut self, n: u32) -> Result<(), NotOwned>
+        ensures gives { Sound self.old → Giving (map_of self.old) n (map_of self.new) result }
+        ensures sound { Sound self.old → Sound self.new }
+        ensures rest { Sound self.old → Rest self.old.size self.old.ranges self.new.ranges }
+    {
         let range = last_up_to(&self.ranges, n);
         if !is_out(self.size, range, n) {
             return Err(NotOwned);

@@ -7,7 +7,7 @@ use Rattle.records.specs.Keys.{first_of, first_below}
 use Rattle.records.specs.declared.ranges.FreeRange.{FreeRange}
 use Rattle.ranges.specs.Ranges.{at_block, range_at, without}
 use Rattle.ranges.specs.Steps.{Cut}
-use Rattle.ranges.proofs.Steps.{in_order, owned_parts, cut_after}
+use Rattle.ranges.proofs.Steps.{in_order, rest_past, owned_parts, cut_after}
 use Rattle.ranges.proofs.free.cut_after.Goals as goal
 
 other : (a k : ℕ) → k < a → same first_below (at_block a) (at_block k) ≡ false
@@ -32,5 +32,6 @@ returns c = record {
         regular = record { few = s.few; places = omega (arith, s.places, gone.room); maximal = cut.maximal };
         cut = cut;
         before = λ k le. below (records t) (records u) c.saturating_add.result k (omega arith) (gone.alone ord);
+        rest = rest_past m t u cut.maximal gone.past;
       };
 }

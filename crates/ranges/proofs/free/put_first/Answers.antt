@@ -1,26 +1,49 @@
-use Rattle.std.proofs.Common.{◌≡◌, ℕ, ◌+◌, sym, refl, ap, ◌∙◌, subst, arith}
+use Rattle.std.proofs.Common.{◌≡◌, ◌+◌, ◌-◌, Some, None, sym, ap, ◌∙◌, subst, arith}
 use Rattle.ordered.specs.Lent.{records}
 use Rattle.records.specs.declared.ranges.FreeRange.{FreeRange}
 use Rattle.ranges.specs.Ranges.{range_at, joined, without}
-use Rattle.ranges.specs.Steps.{Cut, Fitting, Changed}
-use Rattle.ranges.proofs.Steps.{in_order, owned_parts, cut_after, first_fits, first_gives}
+use Rattle.ranges.proofs.Laws.{removes_none}
+use Rattle.ranges.proofs.Steps.{Fitting, Put, in_order, owned_parts, cut_after, inserts, rekeys, first_fits, first_gives}
 use Rattle.ranges.proofs.free.put_first.Goals as goal
 
-pub returns : goal.returns
-returns c = record {
+pub returns-in-Some : goal.returns-in-Some
+returns-in-Some c = record {
   after = λ m s owned left.
       let t = c.args.ranges.now in
-      let u = c.change.new.ranges in
+      let u = c.rekey.new.self in
       let n = c.args.n in
-      let r = c.length_of-right.result in
+      let r = c.in-Some.right.length in
       let xs = records t in
-      let ys = without xs (n + 1) in
+      let b = c.saturating_add.result in
+      let ys = without xs b in
       let out = owned_parts m n xs owned in
-      let next : c.saturating_add-next.result ≡ n + 1 = omega (arith, s.few, out.0) in
-      let cut = subst (λ (l : ℕ). Cut m xs ys (record { first = n + 1; length = l })) (sym c.length_of-right.ensures.value)
-      (cut_after m n xs ys c.get.result s.maximal out.0 out.1 (c.get.ensures.finds (in_order m t s) ∙ ap (range_at xs) next) refl) in
+      let next : b ≡ n + 1 = omega (arith, s.few, out.0) in
+      let ord = in_order m t s in
+      let there = c.in-Some.ensures.finds ord in
+      let cut = cut_after m n xs ys (Some c.in-Some.right) s.maximal out.0 out.1 (there ∙ ap (range_at xs) next) (ap (without xs) next) in
       let is : c.join.result ≡ joined 0 n r = c.join.ensures.value (omega (arith, cut.high, s.few)) in
-      let changed = subst (λ (x : FreeRange). Fitting m ys x → Changed m t (n + 1) u x) is
-      (subst (λ (b : ℕ). Fitting m (without xs b) c.join.result → Changed m t b u c.join.result) next (c.change.ensures.after m s)) (first_fits m n r xs ys cut out.1 left) in
-      record { regular = changed.regular; owned = first_gives m n r xs ys cut out.1 left (records u) out.0 changed.blocks };
+      let first : c.join.result.first ≡ n - 0 = ap (λ (x : FreeRange). x.first) is in
+      let over = c.rekey.ensures in
+      let fits = subst (Fitting m ys) (sym is) (first_fits m n r xs ys cut out.1 left) in
+      let put = subst (Put m t ys u) is (rekeys m t u c.join.result s over.room over.past b c.in-Some.right c.rekey.result (sym there) (omega arith) (omega arith) fits (over.value ord) (over.items ord)) in
+      record { regular = put.regular; owned = first_gives m n r xs ys cut out.1 left (records u) out.0 put.blocks; rest = put.rest };
+}
+
+pub returns-in-None : goal.returns-in-None
+returns-in-None c = record {
+  after = λ m s owned left.
+      let t = c.args.ranges.now in
+      let u = c.insert.new.self in
+      let n = c.args.n in
+      let xs = records t in
+      let out = owned_parts m n xs owned in
+      let next : c.saturating_add.result ≡ n + 1 = omega (arith, s.few, out.0) in
+      let ord = in_order m t s in
+      let none = c.in-None.ensures.finds ord ∙ ap (range_at xs) next in
+      let cut = cut_after m n xs xs None s.maximal out.0 out.1 none (sym (removes_none (n + 1) xs (sym none))) in
+      let is : c.join-in-None.result ≡ joined 0 n 0 = c.join-in-None.ensures.value (omega arith) in
+      let more = c.insert.ensures in
+      let fits = subst (Fitting m xs) (sym is) (first_fits m n 0 xs xs cut out.1 left) in
+      let put = subst (Put m t xs u) is (inserts m t u c.join-in-None.result s more.room more.past c.insert.result fits (more.value ord) (more.items ord)) in
+      record { regular = put.regular; owned = first_gives m n 0 xs xs cut out.1 left (records u) out.0 put.blocks; rest = put.rest };
 }
