@@ -27,8 +27,8 @@ pub(crate) fn last_up_to(ranges: &Table<FreeRange>, n: u32) -> Option<FreeRange>
     Some(ranges.records()[at])
 }
 
-// Takes the first block off a range of the table. A range that is left stays between the same two, so that no other is
-// moved.
+// Takes the first block off a range of the table. What is left of it stays between the same two ranges, so that the table
+// never refuses it and no other is moved.
 pub(crate) fn take_first(ranges: &mut Table<FreeRange>, range: FreeRange)
     ensures after { (m : ℕ) → Regular m ranges.old → range_at (records ranges.old) range.first ≡ Some range → Took m ranges.old range.first ranges.new }
 {
