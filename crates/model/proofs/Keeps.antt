@@ -1,67 +1,61 @@
--- What formatting and each step leave of a sound pool.
-use Rattle.std.proofs.Common.{◌≡◌, ℕ, ◌<◌, true, false, cond, ltb, ◌⊎◌, length, Some, Ok, Err, sym, ◌∙◌, subst, inl, inr, arith, rules}
-use Rattle.std.proofs.lemmas.Bool.Decides.{nat_tests}
-use Rattle.std.proofs.lemmas.Bool.{cases_Bool, cond-true, cond-false, ltb-true, lt-ltb}
-use Rattle.ordered.specs.Order.{ExactlyOne, Holds}
-use Rattle.ordered.specs.Tables.{same, record_of}
-use Rattle.ordered.proofs.Additions.{no_index_of, length_with}
-use Rattle.ordered.proofs.Edits.{ascending_with, alone_with}
-use Rattle.records.specs.Keys.{number_of}
+-- What each step leaves of a sound pool.
+use Rattle.std.proofs.Common.{◌≡◌, ℕ, suc, ◌+◌, ◌≤◌, List, [], length, Ok, Err, sym, ap, subst, inl, inr, arith, Bor}
 use Rattle.records.specs.declared.rows.Row.{Row}
-use Rattle.model.specs.Datasets.{State, Dataset, Unused, head_row}
-use Rattle.model.specs.Laws.{FormattedSound, StepsKeepSound}
-use Rattle.model.specs.Limits.{IsDatasetNumber, Height}
+use Rattle.tree.specs.Paths.{filled}
+use Rattle.model.specs.Datasets.{State, Dataset}
+use Rattle.model.specs.Laws.{StepsKeepSound}
+use Rattle.model.specs.Paths.{Hole, sinking}
+use Rattle.model.specs.Questions.{questions, AllYes, DiscardSinks}
 use Rattle.model.specs.Soundness.{Sound}
-use Rattle.model.specs.Steps.{with_row}
-use Rattle.model.specs.declared.Call.TheVariants.{Create}
+use Rattle.model.specs.Steps.{Replaced}
+use Rattle.model.specs.declared.Call.TheVariants.{Create, Write, Discard, Read}
+use Rattle.model.proofs.Adds.{created}
+use Rattle.model.proofs.Births.{identity_moved, birth_law_moved, one_young_moved}
+use Rattle.model.proofs.Borns.{born_moved}
+use Rattle.model.proofs.Deads.{dead_moved, dead_ordered_moved, dead_length_moved}
+use Rattle.model.proofs.Kin.{shape_moved, family_moved}
+use Rattle.model.proofs.Moves.{Moved}
+use Rattle.model.proofs.Owners.{owned_moved, below_moved}
+use Rattle.model.proofs.Places.{one_row, pointers_moved}
+use Rattle.model.proofs.Readings.{write_moved, discard_moved}
 
-pub formatted_sound : FormattedSound
-formatted_sound room limits = record {
-  room = limits;
-  fits = omega arith;
-  ordered = λ i j d lt w. absurd (omega arith);
-  numbers = λ n r e. absurd (let z : ◌≡◌ {A = ℕ} 0 1 = cc in omega arith);
-  heights = λ n r e. absurd (let z : ◌≡◌ {A = ℕ} 0 1 = cc in omega arith);
+-- a replaced path whose dead records fit leaves a sound pool
+replaced_sound : (s t : State) (n : ℕ) (r : Row) (p k : ℕ) (bytes : List ℕ) → Sound s → (rep : Replaced s t n r p k bytes) → Moved s t n r p k rep.new
+    → length s.dead + length (sinking s r p) ≤ s.dead_room → Sound t
+replaced_sound s t n r p k bytes sound rep moved fits = record {
+  shape =
+      shape_moved s t n r p k bytes sound rep moved (dead_ordered_moved s t n r p k bytes sound rep moved)
+      (omega (arith, dead_length_moved s t n r p k bytes sound rep moved, rep.dead_room)) (below_moved s t n r p k bytes sound rep moved);
+  family = family_moved s t n r p k rep.new sound moved;
+  pointers = pointers_moved s t n r p k rep.new sound moved;
+  identity = identity_moved s t n r p k rep.new sound moved;
+  birth_law = birth_law_moved s t n r p k rep.new sound moved;
+  one_young = one_young_moved s t n r p k rep.new sound moved;
+  owned = owned_moved s t n r p k bytes sound rep moved;
+  dead = dead_moved s t n r p k bytes sound rep moved;
+  born = born_moved s t n r p k bytes sound rep moved;
 }
 
-chain : (a b c : ℕ) → Holds ltb a b → Holds ltb b c → Holds ltb a c
-chain a b c p q = lt-ltb a c (omega (arith, ltb-true a b p, ltb-true b c q))
+-- the dead records of a granted write fit
+write_fits : (s : State) (n p : ℕ) (text : Bor (List ℕ)) (r : Row) → Dataset s n r → AllYes (questions s (Write n p text)) → length s.dead + length (sinking s r p) ≤ s.dead_room
+write_fits s n p text r here (_, (_, (_, (_, (_, ((x, k, there, is, fits), _)))))) =
+    let row : x ≡ r = one_row s n x r there here in omega (arith, is, ap (λ (y : Row). length (sinking s y p)) row)
 
-one : (a b : ℕ) → ExactlyOne (Holds ltb a b) (a ≡ b) (Holds ltb b a)
-one a b = search rules
-
-same_number : (a b : ℕ) → same ltb a b ≡ true → b ≡ a
-same_number a b e = grind (arith, nat_tests)
-
--- a dataset of the state with one row more is that row, or a dataset of before
-dataset_cases : (s : State) (r : Row) (n : ℕ) (x : Row) → Unused s r.number → Dataset (with_row s r) n x → ((n ≡ r.number) × (x ≡ r)) ⊎ Dataset s n x
-dataset_cases s r n x new here = go (cases_Bool (same ltb r.number n))
+-- and those of a granted discard of data
+discard_fits : (s : State) (n p : ℕ) (r : Row) → Dataset s n r → (Hole s r p → ⊥) → AllYes (questions s (Discard n p)) → length s.dead + length (sinking s r p) ≤ s.dead_room
+discard_fits s n p r here Filled-in (_, (_, (_, (_, (_, ((x, k, there, sinks, fits), _)))))) =
+    go (subst (λ (y : Row). DiscardSinks s p y k) (one_row s n x r there here) sinks)
   where
-    found : cond (same ltb r.number n) (Some r) (record_of number_of ltb s.rows n) ≡ Some x
-    found = sym (alone_with number_of ltb one chain s.rows r (no_index_of number_of ltb s.rows r.number new) n) ∙ here
-
-    go : (same ltb r.number n ≡ true) ⊎ (same ltb r.number n ≡ false) → ((n ≡ r.number) × (x ≡ r)) ⊎ Dataset s n x
-    go (inl e) = let is : Some r ≡ Some x = sym (cond-true _ _ _ e) ∙ found in inl (same_number _ _ e, cc)
-    go (inr apart) = inr (sym (cond-false _ _ _ apart) ∙ found)
-
-with_row_sound : (s : State) (r : Row) → Sound s → Unused s r.number → IsDatasetNumber r.number → Height r.height → length s.rows < s.row_room → Sound (with_row s r)
-with_row_sound s r sound new number height free = record {
-  room = sound.room;
-  fits = let more = length_with number_of ltb s.rows r in omega arith;
-  ordered = ascending_with number_of ltb one chain s.rows r (no_index_of number_of ltb s.rows r.number new) sound.ordered;
-  numbers = λ n x here. numbers n x (dataset_cases s r n x new here);
-  heights = λ n x here. heights n x (dataset_cases s r n x new here);
-}
-  where
-    numbers : (n : ℕ) (x : Row) → ((n ≡ r.number) × (x ≡ r)) ⊎ Dataset s n x → IsDatasetNumber n
-    numbers n x (inl (e, _)) = subst IsDatasetNumber (sym e) number
-    numbers n x (inr old) = sound.numbers n x old
-
-    heights : (n : ℕ) (x : Row) → ((n ≡ r.number) × (x ≡ r)) ⊎ Dataset s n x → Height x.height
-    heights n x (inl (_, e)) = subst (λ y. Height y.height) (sym e) height
-    heights n x (inr old) = sound.heights n x old
+    go : DiscardSinks s p r k → length s.dead + length (sinking s r p) ≤ s.dead_room
+    go (inl (hole, _)) = absurd (Filled-in hole)
+    go (inr (_, is)) = omega arith
 
 pub steps_keep_sound : StepsKeepSound
 steps_keep_sound s c (Err l) t sound (_, e) = subst Sound (sym e) sound
-steps_keep_sound s (Create n h) (Ok a) t sound ((number, (new, (height, (free, _)))), (_, e)) =
-    subst Sound (sym e) (with_row_sound s (head_row n h) sound new number height free)
+steps_keep_sound s (Create n h) (Ok a) t sound (asked, (_, e)) = subst Sound (sym e) (created s n h sound asked)
+steps_keep_sound s (Write n p text) (Ok a) t sound (asked, (_, (r, here, rep))) =
+    replaced_sound s t n r p (suc r.height) (filled text.now) sound rep (write_moved s t n p text r sound here asked rep) (write_fits s n p text r here asked)
+steps_keep_sound s (Discard n p) (Ok a) t sound (asked, (_, (r, here, inl (_, e)))) = subst Sound (sym e) sound
+steps_keep_sound s (Discard n p) (Ok a) t sound (asked, (_, (r, here, inr (full, (k, stay, rep))))) =
+    replaced_sound s t n r p k [] sound rep (discard_moved s t n p k r sound here asked stay rep) (discard_fits s n p r here full asked)
+steps_keep_sound s (Read n p) (Ok a) t sound (_, (_, e)) = subst Sound (sym e) sound

@@ -1,1 +1,17 @@
+pub mod Adds
+pub mod Ancestors
+pub mod Births
+pub mod Borns
+pub mod Burials
+pub mod Counts
+pub mod Deads
 pub mod Keeps
+pub mod Kin
+pub mod Members
+pub mod Moves
+pub mod Owners
+pub mod Places
+pub mod Readings
+pub mod Replacing
+pub mod Rows
+pub mod Starts

@@ -1,17 +1,22 @@
 -- What is asked before a call. The first question answered no refuses the call, with its cause.
---     Question         a statement, and the cause of the refusal where it does not hold
---     AllYes qs        every answer is yes
---     FirstNo qs c     c is the cause of the first question answered no
---     questions s c    the questions that concern the call c, in their order
-use Rattle.std.specs.Prelude.{◌≡◌, ℕ, ◌<◌, ◌⊎◌, List, [], ◌∷◌, length}
+--     Question            a statement, and the cause of the refusal where it does not hold
+--     AllYes qs           every answer is yes
+--     FirstNo qs c        c is the cause of the first question answered no
+--     questions s c       the questions that concern the call c, in their order
+--     format_questions    those before a formatting
+use Rattle.std.specs.Prelude.{◌≡◌, ℕ, suc, ◌+◌, ◌*◌, ◌<◌, ◌≤◌, Bool, false, ◌⊎◌, List, [], ◌∷◌, length, Option}
 use Rattle.faults.specs.declared.Layer.{Layer}
 use Rattle.faults.specs.declared.Layer.TheVariants.{Pool, Memory}
-use Rattle.faults.specs.declared.PoolCause.TheVariants.{DatasetNumber, NumberUsed, OutOfRange}
-use Rattle.faults.specs.declared.MemoryCause.TheVariants.{RowsFull}
-use Rattle.model.specs.Datasets.{State, Unused}
-use Rattle.model.specs.Limits.{IsDatasetNumber, Height}
+use Rattle.faults.specs.declared.PoolCause.TheVariants.{DatasetNumber, NoDataset, WrongKind, NumberUsed, OutOfRange}
+use Rattle.faults.specs.declared.MemoryCause.TheVariants.{RowsFull, BlocksShort, DeadFull, BadShape, NotEmpty}
+use Rattle.records.specs.declared.rows.Row.{Row}
+use Rattle.tree.specs.Trees.{block_size}
+use Rattle.tree.specs.Paths.{Stay}
+use Rattle.model.specs.Datasets.{State, Dataset, Unused, IsHead, Position, free}
+use Rattle.model.specs.Limits.{IsDatasetNumber, Height, PoolSize, RowRoom, DeadRoom}
+use Rattle.model.specs.Paths.{Hole, sinking}
 use Rattle.model.specs.declared.Call.{Call}
-use Rattle.model.specs.declared.Call.TheVariants.{Create}
+use Rattle.model.specs.declared.Call.TheVariants.{Create, Write, Discard, Read}
 
 -- a statement, and the cause of the refusal where it does not hold
 pub record Question : Type 1 where
@@ -35,18 +40,63 @@ FirstNo (q ∷ qs) c = ((q.holds → ⊥) × (c ≡ q.cause)) ⊎ (q.holds × Fi
 abbrev pub numbered : ℕ → Question
 numbered n = ask (IsDatasetNumber n) (Pool DatasetNumber)
 
+-- does the dataset exist?
+abbrev pub exists : State → ℕ → Question
+exists s n = ask ((r : Row) × Dataset s n r) (Pool NoDataset)
+
+-- is it a head?
+abbrev pub head : State → ℕ → Question
+head s n = ask ((o : Option ℕ) × IsHead s n o) (Pool WrongKind)
+
 -- is the number unused?
 abbrev pub unused : State → ℕ → Question
 unused s n = ask (Unused s n) (Pool NumberUsed)
 
--- is the height in range?
-abbrev pub height_in_range : ℕ → Question
-height_in_range h = ask (Height h) (Pool OutOfRange)
+-- is it in range?
+abbrev pub in_range : Type 0 → Question
+in_range P = ask P (Pool OutOfRange)
 
 -- has the row table a free place?
 abbrev pub free_row : State → Question
 free_row s = ask (length s.rows < s.row_room) (Memory RowsFull)
 
+-- are as many blocks free as the call takes of dataset n?
+abbrev pub free_blocks : State → ℕ → (Row → ℕ → Type 0) → Question
+free_blocks s n Takes = ask ((r : Row) × (k : ℕ) × Dataset s n r × Takes r k × (k ≤ free s)) (Memory BlocksShort)
+
+-- do the dead lists still fit with the pointers that sink in dataset n?
+abbrev pub dead_fits : State → ℕ → (Row → ℕ → Type 0) → Question
+dead_fits s n Sinks = ask ((r : Row) × (k : ℕ) × Dataset s n r × Sinks r k × (length s.dead + k ≤ s.dead_room)) (Memory DeadFull)
+
+-- a write takes a block a level
+abbrev pub WriteTakes : Row → ℕ → Type 0
+WriteTakes r k = k ≡ suc r.height
+
+-- a discard of data takes one for each indirect block that stays, and a discard of a hole none
+abbrev pub DiscardTakes : State → ℕ → Row → ℕ → Type 0
+DiscardTakes s p r k = (Hole s r p × (k ≡ 0)) ⊎ ((Hole s r p → ⊥) × Stay s.memory r.root r.height p k)
+
+-- the pointers of the old path that go to the dead list; in a discard of a hole none
+abbrev pub WriteSinks : State → ℕ → Row → ℕ → Type 0
+WriteSinks s p r k = k ≡ length (sinking s r p)
+
+abbrev pub DiscardSinks : State → ℕ → Row → ℕ → Type 0
+DiscardSinks s p r k = (Hole s r p × (k ≡ 0)) ⊎ ((Hole s r p → ⊥) × (k ≡ length (sinking s r p)))
+
 -- the questions of each call, in their order
 abbrev pub questions : State → Call → List Question
-questions s (Create n h) = numbered n ∷ unused s n ∷ height_in_range h ∷ free_row s ∷ []
+questions s (Create n h) = numbered n ∷ unused s n ∷ in_range (Height h) ∷ free_row s ∷ []
+questions s (Write n p text) =
+    numbered n ∷ exists s n ∷ head s n ∷ in_range (Position s n p × (length text.now ≤ block_size))
+    ∷ free_blocks s n WriteTakes ∷ dead_fits s n (WriteSinks s p) ∷ []
+questions s (Discard n p) =
+    numbered n ∷ exists s n ∷ head s n ∷ in_range (Position s n p)
+    ∷ free_blocks s n (DiscardTakes s p) ∷ dead_fits s n (DiscardSinks s p) ∷ []
+questions s (Read n p) = numbered n ∷ exists s n ∷ in_range (Position s n p) ∷ []
+
+-- the questions before block memory and two tables of so many places are formatted for an allocator: do they suit a
+-- pool of its size, and does it own nothing?
+abbrev pub format_questions : List ℕ → ℕ → ℕ → ℕ → (ℕ → Bool) → List Question
+format_questions memory rows dead size owns =
+    ask (PoolSize size × (length memory ≡ block_size * size) × RowRoom rows × DeadRoom dead) (Memory BadShape)
+    ∷ ask ((b : ℕ) → owns b ≡ false) (Memory NotEmpty) ∷ []

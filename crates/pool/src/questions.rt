@@ -1,15 +1,21 @@
 // The questions that are put before a call, each with the cause of its refusal.
-ghost use Rattle.std.specs.Prelude.{◌≡◌, ◌<◌, true, false, length, None, MatchResult, ◌≢◌};
-ghost use Rattle.faults.specs.declared.PoolCause.TheVariants.{DatasetNumber, NumberUsed, OutOfRange};
-ghost use Rattle.faults.specs.declared.MemoryCause.TheVariants.{RowsFull, BadShape};
-ghost use Rattle.model.specs.Limits.{IsDatasetNumber, Height, RowRoom};
+ghost use Rattle.std.specs.Prelude.{◌≡◌, ℕ, ◌+◌, ◌*◌, ◌^◌, ◌<◌, ◌≤◌, true, false, length, Some, None, Option, MatchResult, ◌≢◌};
+ghost use Rattle.faults.specs.declared.PoolCause.TheVariants.{DatasetNumber, NoDataset, NumberUsed, OutOfRange, WrongKind};
+ghost use Rattle.faults.specs.declared.MemoryCause.TheVariants.{BadShape, BlocksShort, DeadFull, NotEmpty, RowsFull};
+ghost use Rattle.blocks.specs.Meanings.{free};
+ghost use Rattle.records.specs.declared.rows.Kind.TheVariants.{Head};
+ghost use Rattle.model.specs.Limits.{IsDatasetNumber, DeadRoom, Height, PoolSize, RowRoom};
 ghost use Rattle.ordered.specs.Lent.{records, room};
 ghost use Rattle.pool.specs.Pools.{in_rows, RowsOrdered};
+ghost use Rattle.tree.specs.Trees.{block_size, fan};
 
-use crate::MOST_ROWS;
+use crate::{MOST_DEAD, MOST_ROWS};
+use blocks::{BlockAllocator, MOST_BLOCKS};
 use faults::{MemoryCause, PoolCause};
 use ordered::tables::Table;
-use records::rows::Row;
+use records::dead::DeadRecord;
+use records::rows::{Kind, Row};
+use tree::{BLOCK_BYTES, FAN, MOST_HEIGHT};
 
 // A no is a refusal with that cause.
 fn ask<C: Drop>(yes: bool, cause: C) -> Result<(), C>
@@ -32,11 +38,24 @@ pub fn height(height: u32) -> Result<(), PoolCause>
     ask((1..=4).contains(&height), PoolCause::OutOfRange)
 }
 
-// Is it 1 to 256?
-pub fn row_room(room: usize) -> Result<(), MemoryCause>
-    ensures cases { MatchResult result (λ _. RowRoom room) (λ c. (c ≡ BadShape) × (RowRoom room → ⊥)) }
+// Do block memory of so many bytes and two tables of so many places suit a pool of that size?
+pub fn shape(size: u32, memory: usize, rows: usize, dead: usize) -> Result<(), MemoryCause>
+    ensures cases { MatchResult result (λ _. PoolSize size × (memory ≡ block_size * size) × RowRoom rows × DeadRoom dead) (λ c. (c ≡ BadShape) × (PoolSize size × (memory ≡ block_size * size) × RowRoom rows × DeadRoom dead → ⊥)) }
 {
-    ask((1..=MOST_ROWS).contains(&room), MemoryCause::BadShape)
+    let blocks = (1..=MOST_BLOCKS).contains(&size) && memory == BLOCK_BYTES * size as usize;
+    if blocks && (1..=MOST_ROWS).contains(&rows) && (1..=MOST_DEAD).contains(&dead) {
+        Ok(())
+    } else {
+        Err(MemoryCause::BadShape)
+    }
+}
+
+// Does the allocator own nothing?
+pub fn owns_nothing<A: BlockAllocator>(allocator: &A) -> Result<(), MemoryCause>
+    ensures cases { A.sound allocator.now → MatchResult result (λ _. (b : ℕ) → (A.meaning allocator.now).owns b ≡ false) (λ c. (c ≡ NotEmpty) × (((b : ℕ) → (A.meaning allocator.now).owns b ≡ false) → ⊥)) }
+{
+    let free = allocator.free_count();
+    ask(free == allocator.size(), MemoryCause::NotEmpty)
 }
 
 // Has no row that number?
@@ -51,4 +70,47 @@ pub fn free_row(rows: &Table<Row>) -> Result<(), MemoryCause>
     ensures cases { MatchResult result (λ _. length (records rows.now) < room rows.now) (λ c. (c ≡ RowsFull) × (length (records rows.now) < room rows.now → ⊥)) }
 {
     ask(!rows.is_full(), MemoryCause::RowsFull)
+}
+
+// Does the dataset exist? Then its row.
+pub fn existing(rows: &Table<Row>, number: u32) -> Result<Row, PoolCause>
+    ensures cases { RowsOrdered rows.now → MatchResult result (λ row. in_rows rows.now number ≡ Some row) (λ c. (c ≡ NoDataset) × (in_rows rows.now number ≡ None)) }
+{
+    rows.get(number).ok_or(PoolCause::NoDataset)
+}
+
+// Is it a head?
+pub fn head(row: Row) -> Result<(), PoolCause>
+    ensures cases { MatchResult result (λ _. (o : Option ℕ) × (row.kind ≡ Head o)) (λ c. (c ≡ WrongKind) × ((o : Option ℕ) → row.kind ≢ Head o)) }
+{
+    ask(matches!(row.kind, Kind::Head { .. }), PoolCause::WrongKind)
+}
+
+// Is it a position of a tree of that height?
+pub fn position(height: u32, position: u32) -> Result<(), PoolCause>
+    ensures cases { height ≤ 4 → MatchResult result (λ _. position < fan ^ height) (λ c. (c ≡ OutOfRange) × (position < fan ^ height → ⊥)) }
+{
+    let inside = height <= MOST_HEIGHT && position < FAN.pow(height);
+    ask(inside, PoolCause::OutOfRange)
+}
+
+// Do so many bytes fit a block?
+pub fn text(len: usize) -> Result<(), PoolCause>
+    ensures cases { MatchResult result (λ _. len ≤ block_size) (λ c. (c ≡ OutOfRange) × (len ≤ block_size → ⊥)) }
+{
+    ask(len <= BLOCK_BYTES, PoolCause::OutOfRange)
+}
+
+// Are so many blocks free?
+pub fn free_blocks<A: BlockAllocator>(allocator: &A, count: u32) -> Result<(), MemoryCause>
+    ensures cases { A.sound allocator.now → MatchResult result (λ _. count ≤ free (A.meaning allocator.now)) (λ c. (c ≡ BlocksShort) × (count ≤ free (A.meaning allocator.now) → ⊥)) }
+{
+    ask(count <= allocator.free_count(), MemoryCause::BlocksShort)
+}
+
+// Are there places for so many more dead records?
+pub fn dead_fits(dead: &Table<DeadRecord>, count: usize) -> Result<(), MemoryCause>
+    ensures cases { MatchResult result (λ _. length (records dead.now) + count ≤ room dead.now) (λ c. (c ≡ DeadFull) × (length (records dead.now) + count ≤ room dead.now → ⊥)) }
+{
+    ask(count <= dead.spare(), MemoryCause::DeadFull)
 }

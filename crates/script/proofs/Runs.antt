@@ -2,7 +2,7 @@
 use Rattle.std.proofs.Common.{ℕ, ◌<◌, ◌≤◌, List, ◌∷◌, ◌++◌, length, Result, sym, ap, ◌∙◌, subst, inl, inr, append_assoc, arith}
 use Rattle.std.proofs.lemmas.List.{length-append}
 use Rattle.faults.specs.declared.Layer.{Layer}
-use Rattle.model.specs.declared.Changed.{Changed}
+use Rattle.model.specs.declared.Answer.{Answer}
 use Rattle.script.specs.Consoles.{Console, FirstLine, Answered, named, unnamed, later, Next, too_long, line, Prints, more}
 
 -- a line takes a byte at least
@@ -11,7 +11,7 @@ first_shorter bs l rest (some, inl (_, e)) = omega (arith, ap length e ∙ lengt
 first_shorter bs l rest (some, inr (_, e)) = omega (arith, ap length e)
 
 -- an answer reads no more than the line
-answered_rest : (c : Console) (bs : List ℕ) (r : Result Changed Layer) (d : Console) → Answered c bs r d → length d.rest ≤ length c.rest
+answered_rest : (c : Console) (bs : List ℕ) (r : Result Answer Layer) (d : Console) → Answered c bs r d → length d.rest ≤ length c.rest
 answered_rest c bs _ _ (named _ _) = omega arith
 answered_rest c bs _ _ (unnamed _ _) = omega arith
 answered_rest c bs _ _ (later _ _) = omega arith

@@ -9,7 +9,7 @@
 --     Next c bs d           the console c prints the line bs next, and is then d
 --     Over c                the console c prints no more
 --     Prints c bs           all that the console c prints
-use Rattle.std.specs.Prelude.{◌≡◌, ℕ, ◌+◌, ◌<◌, ◌≤◌, ◌⊎◌, List, [], ◌++◌, length, Some, None, Ok, Err, codes, Result}
+use Rattle.std.specs.Prelude.{◌≡◌, ℕ, ◌+◌, ◌<◌, ◌≤◌, false, ◌⊎◌, List, [], ◌++◌, length, Some, None, Ok, Err, codes, Result}
 use Rattle.faults.specs.declared.Layer.{Layer}
 use Rattle.faults.specs.declared.Layer.TheVariants.{Script}
 use Rattle.faults.specs.declared.ScriptCause.TheVariants.{Size, Letter}
@@ -17,12 +17,13 @@ use Rattle.makes.specs.declared.Make.{Make}
 use Rattle.makes.specs.declared.Make.TheVariants.{Bits, Ranges}
 use Rattle.model.specs.Datasets.{State, formatted}
 use Rattle.model.specs.Questions.{AllYes, FirstNo}
-use Rattle.model.specs.Steps.{Step, nothing_moved}
+use Rattle.model.specs.Steps.{Step}
+use Rattle.model.specs.declared.Answer.{Answer}
+use Rattle.model.specs.declared.Answer.TheVariants.{Done}
 use Rattle.model.specs.declared.Call.{Call}
-use Rattle.model.specs.declared.Changed.{Changed}
 use Rattle.script.specs.Lines.{line_questions, call_text}
 use Rattle.script.specs.Parts.{Splits}
-use Rattle.script.specs.Shown.{shown_change, shown_fault}
+use Rattle.script.specs.Shown.{shown_granted, shown_fault}
 
 -- the bytes that are still to be read, how many lines were read, and the pool
 pub record Console : Type 0 where
@@ -30,9 +31,10 @@ pub record Console : Type 0 where
   pub read : ℕ
   pub pool : State
 
--- a console before its first line: its pool has 64 places for rows
-abbrev pub opened : List ℕ → Console
-opened script = record { rest = script; read = 0; pool = formatted 64 }
+-- a console before its first line, which was lent block memory: its pool has 64 places for rows, 512 for dead records
+-- and 256 blocks, none of which is owned
+abbrev pub opened : List ℕ → List ℕ → Console
+opened memory script = record { rest = script; read = 0; pool = formatted memory 64 512 256 (λ _. false) }
 
 -- more bytes than a script may have
 abbrev pub TooLong : List ℕ → Type 0
@@ -52,9 +54,9 @@ abbrev pub NamesAllocator : List ℕ → Type 0
 NamesAllocator line = (m : Make) × Names line m
 
 -- A line after the first is refused for its form, and nothing changes; or it writes a call, which the pool answers.
-pub data Obeyed (s : State) (line : List ℕ) : Result Changed Layer → State → Type 0 where
+pub data Obeyed (s : State) (line : List ℕ) : Result Answer Layer → State → Type 0 where
   malformed : {l : Layer} → FirstNo (line_questions line) l → Obeyed s line (Err l) s
-  called : (c : Call) {r : Result Changed Layer} {t : State} → AllYes (line_questions line) → line ≡ call_text c → Step s c r t → Obeyed s line r t
+  called : (c : Call) {r : Result Answer Layer} {t : State} → AllYes (line_questions line) → line ≡ call_text c → Step s c r t → Obeyed s line r t
 
 -- a console that reads no more, and one with another pool
 abbrev pub ended : Console → Console
@@ -63,18 +65,22 @@ ended c = record { rest = []; read = c.read; pool = c.pool }
 abbrev pub with_pool : Console → State → Console
 with_pool c pool = record { rest = c.rest; read = c.read; pool = pool }
 
+-- no block was taken and none was given back
+abbrev pub nothing_moved : Answer
+nothing_moved = Done (record { taken = 0; given = 0 })
+
 -- What a console answers to the line that it has just read, and the console after it.
-pub data Answered (c : Console) (line : List ℕ) : Result Changed Layer → Console → Type 0 where
+pub data Answered (c : Console) (line : List ℕ) : Result Answer Layer → Console → Type 0 where
   -- the first line names an allocator
   named : c.read ≡ 1 → NamesAllocator line → Answered c line (Ok nothing_moved) c
   -- any other first line is the last that is read
   unnamed : c.read ≡ 1 → (NamesAllocator line → ⊥) → Answered c line (Err (Script Letter)) (ended c)
   -- a later line is obeyed
-  later : {r : Result Changed Layer} {t : State} → 2 ≤ c.read → Obeyed c.pool line r t → Answered c line r (with_pool c t)
+  later : {r : Result Answer Layer} {t : State} → 2 ≤ c.read → Obeyed c.pool line r t → Answered c line r (with_pool c t)
 
 -- the line that shows the answer to line n
-abbrev pub told : ℕ → Result Changed Layer → List ℕ
-told n (Ok a) = shown_change a
+abbrev pub told : ℕ → Result Answer Layer → List ℕ
+told n (Ok a) = shown_granted a
 told n (Err l) = shown_fault (record { layer = l; line = n })
 
 -- the console that has read one line more
@@ -86,7 +92,7 @@ pub data Next (c : Console) : List ℕ → Console → Type 0 where
   -- a script that is too long is not read, which is told of line 0
   too_long : TooLong c.rest → Next c (told 0 (Err (Script Size))) (ended c)
   -- else the next line is read and answered, under its number
-  line : {line rest : List ℕ} {r : Result Changed Layer} {d : Console} → (TooLong c.rest → ⊥) → FirstLine c.rest line rest → Answered (past c rest) line r d
+  line : {line rest : List ℕ} {r : Result Answer Layer} {d : Console} → (TooLong c.rest → ⊥) → FirstLine c.rest line rest → Answered (past c rest) line r d
       → Next c (told (c.read + 1) r) d
 
 -- nothing is left to read

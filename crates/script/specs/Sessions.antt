@@ -1,8 +1,9 @@
 -- A session, by the console that it is.
 --     rest_of l            what the lines l still have to read
 --     Reads l r m          the lines l give r next, and are then m
+--     held p, Whole p      the state that the pool p holds; the pool p and its allocator are sound
 --     console_of s         the console that the session s is
---     Ready s              the pool of the session s is sound
+--     Ready s              the pool of the session s is whole
 --     NewAllocator s a     the allocator a is the one that the first line of the script s names, and owns nothing
 use Rattle.std.specs.Prelude.{◌≡◌, ℕ, ◌+◌, false, List, [], Some, None, Ok, Err, Option, Result}
 use Rattle.faults.specs.declared.ScriptCause.{ScriptCause}
@@ -11,8 +12,9 @@ use Rattle.makes.specs.Makes as any
 use Rattle.makes.specs.Makes.{make_of, meaning_of}
 use Rattle.makes.specs.declared.AnyAllocator.{AnyAllocator}
 use Rattle.makes.specs.declared.Make.{Make}
-use Rattle.model.specs.Soundness.{Sound}
-use Rattle.pool.specs.Pools.{state_of}
+use Rattle.model.specs.Datasets.{State}
+use Rattle.pool.specs.Pools.{Intact, state_of}
+use Rattle.pool.specs.declared.Pool.{Pool}
 use Rattle.script.specs.Consoles.{Console, FirstLine, Names, TooLong}
 use Rattle.script.specs.declared.lines.Lines.{Lines}
 use Rattle.script.specs.declared.parts.Part.{Part}
@@ -28,13 +30,20 @@ Reads l None m = (rest_of l ≡ []) × (m ≡ l)
 Reads l (Some (Err c)) m = (c ≡ Size) × TooLong (rest_of l) × (rest_of m ≡ []) × (m.read ≡ l.read)
 Reads l (Some (Ok p)) m = (TooLong (rest_of l) → ⊥) × FirstLine (rest_of l) p.bytes.now (rest_of m) × (m.read ≡ l.read + 1)
 
+-- a pool over an allocator of either make: the state that it holds, and that both are sound
+abbrev pub held : Pool AnyAllocator → State
+held p = state_of meaning_of p
+
+abbrev pub Whole : Pool AnyAllocator → Type 0
+Whole p = Intact any.Sound meaning_of p
+
 -- the console that a session is
 abbrev pub console_of : Session → Console
-console_of s = record { rest = rest_of s.lines; read = s.lines.read; pool = state_of s.pool }
+console_of s = record { rest = rest_of s.lines; read = s.lines.read; pool = held s.pool }
 
--- the pool is sound
+-- the pool is whole
 abbrev pub Ready : Session → Type 0
-Ready s = Sound (state_of s.pool)
+Ready s = Whole s.pool
 
 -- an allocator of 256 blocks that owns none, of the make that the first line names
 pub record NewAllocator (script : List ℕ) (a : AnyAllocator) : Type 0 where

@@ -1,11 +1,15 @@
 -- The bytes of each answer.
 --     Buffer n                    a buffer of n bytes is long enough for every answer
 --     Put before after at n bs    the bytes bs were written to a buffer, from `at` on and up to n
+--     shown_granted a             the line that shows what a granted call answers
 --     shown a                     the line that shows the answer a
-use Rattle.std.specs.Prelude.{◌≡◌, ℕ, ◌+◌, ◌≤◌, List, [], ◌∷◌, ◌++◌, length, take, drop, Ok, Err, codes, decimal, Result}
+use Rattle.std.specs.Prelude.{◌≡◌, ℕ, ◌+◌, ◌≤◌, List, [], ◌∷◌, ◌++◌, length, take, drop, Some, None, Ok, Err, codes, decimal, Option, Result}
 use Rattle.faults.specs.Numbers.{fault_number, fault_letter}
 use Rattle.faults.specs.declared.Fault.{Fault}
+use Rattle.model.specs.declared.Answer.{Answer}
+use Rattle.model.specs.declared.Answer.TheVariants.{Done, Bytes}
 use Rattle.model.specs.declared.Changed.{Changed}
+use Rattle.script.specs.Parts.{until}
 
 -- a buffer has at least 80 bytes
 abbrev pub Buffer : ℕ → Type 0
@@ -34,6 +38,16 @@ shown_change c = codes "ok " ++ decimal c.taken ++ space ++ decimal c.given ++ n
 abbrev pub shown_fault : Fault → List ℕ
 shown_fault f = codes "no " ++ decimal (fault_number f.layer) ++ space ++ (fault_letter f.layer ∷ []) ++ space ++ decimal f.line ++ newline
 
-abbrev pub shown : Result Changed Fault → List ℕ
-shown (Ok c) = shown_change c
+-- text BYTES, up to the first zero byte, or hole
+abbrev pub shown_bytes : Option (List ℕ) → List ℕ
+shown_bytes (Some bs) = codes "text " ++ until 0 bs ++ newline
+shown_bytes None = codes "hole" ++ newline
+
+-- a change or a read
+abbrev pub shown_granted : Answer → List ℕ
+shown_granted (Done c) = shown_change c
+shown_granted (Bytes bs) = shown_bytes bs
+
+abbrev pub shown : Result Answer Fault → List ℕ
+shown (Ok a) = shown_granted a
 shown (Err f) = shown_fault f

@@ -1,21 +1,35 @@
 // The lines that answers print.
-ghost use Rattle.std.specs.Prelude.{◌≡◌, ◌+◌, ◌≤◌, length, decimal};
-ghost use Rattle.script.specs.Shown.{Put, Buffer, shown, shown_change, shown_fault};
+ghost use Rattle.std.specs.Prelude.{◌≡◌, ◌+◌, ◌≤◌, length, Some, decimal};
+ghost use Rattle.script.specs.Parts.{until};
+ghost use Rattle.script.specs.Shown.{Put, Buffer, shown, shown_bytes, shown_change, shown_fault};
 
+use crate::parts::Part;
 use faults::Fault;
-use model::Changed;
+use model::{Answer, Changed};
+use tree::BLOCK_BYTES;
 
 // Writes the answer's line at the start of the buffer, and says how long it is.
-pub fn print(answer: Result<Changed, Fault>, out: &mut [u8]) -> usize
+pub fn print(answer: Result<Answer, Fault>, out: &mut [u8]) -> usize
     requires { Buffer (length out.old) }
     ensures wrote { Put out.old out.new 0 result (shown answer) }
 {
     let mut line = Line { out, end: 0 };
     match answer {
-        Ok(changed) => line.push_change(changed),
+        Ok(Answer::Done(changed)) => line.push_change(changed),
+        Ok(Answer::Bytes(Some(block))) => line.push_text(&block),
+        Ok(Answer::Bytes(None)) => line.push(b"hole\n"),
         Err(fault) => line.push_fault(fault),
     }
     line.end
+}
+
+// What stands before the first zero byte, or all where there is none.
+fn before_zero(bytes: &[u8]) -> &[u8]
+    ensures within { length result.now ≤ length bytes.now }
+    ensures value { result.now ≡ until 0 bytes.now }
+{
+    let (front, _) = Part::from(bytes).cut(0);
+    front.bytes
 }
 
 // A line at the start of a lent buffer. It is not written by `write!`, whose contract says what was written where it is
@@ -60,6 +74,17 @@ impl Line<'_> {
         self.push_number(changed.taken);
         self.push(b" ");
         self.push_number(changed.given);
+        self.push(b"\n");
+    }
+
+    // Adds `text` and the bytes of the block before its first zero byte.
+    fn push_text(&mut self, block: &[u8; BLOCK_BYTES])
+        requires { self.old.end + 80 ≤ length self.old.out.now }
+        ensures same_reference { self.new.out.ghost_name ≡ self.old.out.ghost_name }
+        ensures wrote { Put self.old.out.now self.new.out.now self.old.end self.new.end (shown_bytes (Some block.now)) }
+    {
+        self.push(b"text ");
+        self.push(before_zero(block));
         self.push(b"\n");
     }
 

@@ -2,11 +2,9 @@
 ghost use Rattle.std.specs.Prelude.{◌≡◌, ℕ, ◌≤◌, List, length, take, drop, IfErr, IfOk, MatchOption, MatchResult};
 ghost use Rattle.faults.specs.declared.Layer.TheVariants.{Script};
 ghost use Rattle.faults.specs.declared.ScriptCause.TheVariants.{Size, Letter};
-ghost use Rattle.model.specs.Soundness.{Sound};
-ghost use Rattle.model.specs.Steps.{Step, nothing_moved};
-ghost use Rattle.pool.specs.Pools.{state_of};
-ghost use Rattle.script.specs.Consoles.{Answered, FirstLine, Names, NamesAllocator, Next, Obeyed, Over, ended, opened};
-ghost use Rattle.script.specs.Sessions.{NewAllocator, Ready, console_of};
+ghost use Rattle.model.specs.Steps.{Step};
+ghost use Rattle.script.specs.Consoles.{Answered, FirstLine, Names, NamesAllocator, Next, Obeyed, Over, ended, nothing_moved, opened};
+ghost use Rattle.script.specs.Sessions.{NewAllocator, Ready, Whole, console_of, held};
 ghost use Rattle.script.specs.Shown.{Buffer, shown};
 
 use crate::answers;
@@ -15,37 +13,44 @@ use crate::lines::Lines;
 use crate::parts::Part;
 use faults::{Fault, Layer, ScriptCause};
 use makes::{AnyAllocator, Make};
-use model::{Call, Changed};
+use model::{Answer, Call, Changed};
 use pool::Pool;
+use records::dead::DeadRecord;
 use records::ranges::FreeRange;
 use records::rows::Row;
+use tree::BLOCK_BYTES;
 
 // The fewest bytes that the output buffer has.
 pub const SHORTEST_BUFFER: usize = 80;
 
-// The rows and the blocks of the console's pool.
-pub const ROWS: usize = 64;
-
+// The blocks, rows and dead records of the console's pool.
 const BLOCKS: u32 = 256;
 
-// What a bitmap and a range map of that many blocks want.
+pub const ROWS: usize = 64;
+
+pub const DEAD_RECORDS: usize = 512;
+
+// What that many blocks want, and a bitmap and a range map of them.
+pub const MEMORY_BYTES: usize = BLOCKS as usize * BLOCK_BYTES;
+
 pub const BITMAP_BYTES: usize = (BLOCKS as usize + 7) / 8;
 
 pub const FREE_RANGES: usize = (BLOCKS as usize + 1) / 2;
 
 // The memory that a console is lent.
 pub struct Memory<'m> {
+    pub memory: &'m mut [u8; MEMORY_BYTES],
     pub rows: &'m mut [Row; ROWS],
+    pub dead: &'m mut [DeadRecord; DEAD_RECORDS],
     pub bits: &'m mut [u8; BITMAP_BYTES],
     pub ranges: &'m mut [FreeRange; FREE_RANGES],
 }
 
-// That the pool is sound is a premise of the clauses, since lent memory may hold anything.
+// That the pool is whole is a premise of the clauses, since lent memory may hold anything.
 #[derive(Drop)]
 pub struct Session<'s, 'm> {
     lines: Lines<'s>,
-    pool: Pool<'m>,
-    allocator: AnyAllocator<'m>,
+    pool: Pool<'m, AnyAllocator<'m>>,
 }
 
 // The make that a first line names.
@@ -75,43 +80,57 @@ fn first_make(script: &[u8]) -> Make
 }
 
 // Has the pool do what a call says.
-fn perform(pool: &mut Pool<'_>, call: Call) -> Result<Changed, Layer>
-    ensures step { Sound (state_of pool.old) → Step (state_of pool.old) call result (state_of pool.new) }
-    ensures sound { Sound (state_of pool.old) → Sound (state_of pool.new) }
+fn perform(pool: &mut Pool<'_, AnyAllocator<'_>>, call: Call<'_>) -> Result<Answer, Layer>
+    ensures step { Whole pool.old → Step (held pool.old) call.entry result (held pool.new) }
+    ensures whole { Whole pool.old → Whole pool.new }
 {
     match call {
-        Call::Create { number, height } => pool.create(number, height),
+        Call::Create { number, height } => pool.create(number, height).map(Answer::Done),
+        Call::Write {
+            number,
+            position,
+            text,
+        } => pool.write(number, position, text).map(Answer::Done),
+        Call::Discard { number, position } => pool.discard(number, position).map(Answer::Done),
+        Call::Read { number, position } => pool
+            .read(number, position)
+            .map(|found| Answer::Bytes(found.copied())),
     }
 }
 
 // What a later line answers: the pool does what it says.
-fn obey(pool: &mut Pool<'_>, line: Part<'_>) -> Result<Changed, Layer>
-    ensures obeyed { Sound (state_of pool.old) → Obeyed (state_of pool.old) line.entry.bytes.now result (state_of pool.new) }
-    ensures sound { Sound (state_of pool.old) → Sound (state_of pool.new) }
+fn obey(pool: &mut Pool<'_, AnyAllocator<'_>>, line: Part<'_>) -> Result<Answer, Layer>
+    ensures obeyed { Whole pool.old → Obeyed (held pool.old) line.entry.bytes.now result (held pool.new) }
+    ensures whole { Whole pool.old → Whole pool.new }
 {
     let call = read_call(line)?;
     perform(pool, call)
 }
 
 impl<'s, 'm> Session<'s, 'm> {
-    // A console at the start of the script, with an empty pool, and the allocator that the first line names.
+    // A console at the start of the script, with an empty pool over the allocator that the first line names.
     pub fn open(script: &'s [u8], memory: Memory<'m>) -> Session<'s, 'm>
-        ensures value { console_of result ≡ opened script.now }
+        ensures value { console_of result ≡ opened memory.entry.memory.now script.now }
         ensures ready { Ready result }
-        ensures allocator { NewAllocator script.now result.allocator }
+        ensures allocator { NewAllocator script.now result.pool.allocator }
     {
         // Memory of these lengths holds a pool, and an allocator of either make.
-        let Memory { rows, bits, ranges } = memory;
-        let Ok(pool) = Pool::format(rows) else {
+        let Memory {
+            memory,
+            rows,
+            dead,
+            bits,
+            ranges,
+        } = memory;
+        let (allocator, Ok(())) = AnyAllocator::new(first_make(script), BLOCKS, bits, ranges) else {
             unreachable!()
         };
-        let (allocator, Ok(())) = AnyAllocator::new(first_make(script), BLOCKS, bits, ranges) else {
+        let Ok(pool) = Pool::format(memory, rows, dead, allocator) else {
             unreachable!()
         };
         Session {
             lines: Lines::new(script),
             pool,
-            allocator,
         }
     }
 
@@ -122,7 +141,6 @@ impl<'s, 'm> Session<'s, 'm> {
         ensures written { IfOk result (λ p. Buffer (length out.old) × MatchOption p (out.new ≡ out.old) (λ n. (n ≤ length out.old) × (drop n out.new ≡ drop n out.old))) }
         ensures short { IfErr result (λ c. (c ≡ Size) × (Buffer (length out.old) → ⊥) × (self.new ≡ self.old) × (out.new ≡ out.old)) }
         ensures ready { Ready self.old → Ready self.new }
-        ensures allocator { self.new.allocator ≡ self.old.allocator }
     {
         if out.len() < SHORTEST_BUFFER {
             return Err(ScriptCause::Size);
@@ -134,10 +152,9 @@ impl<'s, 'm> Session<'s, 'm> {
     }
 
     // What the next line answers, or nothing where no more is read.
-    fn answer_next(&mut self) -> Option<Result<Changed, Fault>>
+    fn answer_next(&mut self) -> Option<Result<Answer, Fault>>
         ensures cases { Ready self.old → MatchOption result (Over (console_of self.old) × (console_of self.new ≡ console_of self.old)) (λ a. Next (console_of self.old) (shown a) (console_of self.new)) }
         ensures ready { Ready self.old → Ready self.new }
-        ensures allocator { self.new.allocator ≡ self.old.allocator }
     {
         let answer = match self.lines.next()? {
             Ok(line) => self
@@ -149,11 +166,10 @@ impl<'s, 'm> Session<'s, 'm> {
     }
 
     // What that line answers, which was just read.
-    fn answer_line(&mut self, line: Part<'_>) -> Result<Changed, Layer>
+    fn answer_line(&mut self, line: Part<'_>) -> Result<Answer, Layer>
         ensures answered { Ready self.old → 1 ≤ self.old.lines.read → Answered (console_of self.old) line.entry.bytes.now result (console_of self.new) }
         ensures read { self.new.lines.read ≡ self.old.lines.read }
         ensures ready { Ready self.old → Ready self.new }
-        ensures allocator { self.new.allocator ≡ self.old.allocator }
     {
         if self.lines.read == 1 {
             self.answer_first(line)
@@ -163,13 +179,12 @@ impl<'s, 'm> Session<'s, 'm> {
     }
 
     // What the first line answers. After one that names no allocator, no more is read.
-    fn answer_first(&mut self, line: Part<'_>) -> Result<Changed, Layer>
+    fn answer_first(&mut self, line: Part<'_>) -> Result<Answer, Layer>
         ensures cases { MatchResult result (λ a. NamesAllocator line.entry.bytes.now × (a ≡ nothing_moved) × (console_of self.new ≡ console_of self.old)) (λ l. (NamesAllocator line.entry.bytes.now → ⊥) × (l ≡ Script Letter) × (console_of self.new ≡ ended (console_of self.old))) }
         ensures ready { Ready self.old → Ready self.new }
-        ensures allocator { self.new.allocator ≡ self.old.allocator }
     {
         match Make::try_from(line) {
-            Ok(_) => Ok(Changed::default()),
+            Ok(_) => Ok(Answer::Done(Changed::default())),
             Err(cause) => {
                 self.lines.stop();
                 Err(Layer::from(cause))

@@ -1,8 +1,12 @@
 // Words of a line, which are parts of the script.
-ghost use Rattle.std.specs.Prelude.{◌≢◌, length, MatchOption};
-ghost use Rattle.script.specs.Words.{Writes, Numeral, IsWord, TwoWords, words};
+ghost use Rattle.std.specs.Prelude.{T, MatchOption};
+ghost use Rattle.script.specs.Parts.{Without};
+ghost use Rattle.script.specs.Words.{Writes, Numeral, IsWord, IsText, TwoWords};
 
 use crate::parts::Part;
+
+// The most bytes that a text has.
+const LONGEST_TEXT: usize = 64;
 
 // A word, with the part of the script that it is: a number, or any other text.
 #[derive(Clone, Copy)]
@@ -23,6 +27,16 @@ fn number(bytes: &[u8]) -> Option<u32>
     }
 }
 
+// Are the bytes one to 64, and each printable?
+pub fn is_text(bytes: &[u8]) -> bool
+    ensures yes { T result → IsText bytes.now }
+    ensures no { IsText bytes.now → T result }
+{
+    !bytes.is_empty()
+        && bytes.len() <= LONGEST_TEXT
+        && bytes.iter().all(|byte| (b' '..=b'~').contains(byte))
+}
+
 // What a part says.
 impl<'s> From<Part<'s>> for Word<'s> {
     ghost from_gives = { λ part word. IsWord word part.bytes.now part.at };
@@ -35,14 +49,11 @@ impl<'s> From<Part<'s>> for Word<'s> {
     }
 }
 
-// The two words of a part, where it has just two.
-pub fn two_words<'s>(part: Part<'s>) -> Option<(Word<'s>, Word<'s>)>
-    ensures cases { MatchOption result (length (words part.entry.bytes.now) ≢ 2) (λ p. TwoWords part.entry.bytes.now part.entry.at p.0 p.1) }
+// The first two words of a part, where it has two, and what follows a second space, where there is one.
+pub fn two_words<'s>(part: Part<'s>) -> Option<(Word<'s>, Word<'s>, Option<Part<'s>>)>
+    ensures cases { MatchOption result (Without 32 part.entry.bytes.now) (λ p. TwoWords part.entry.bytes.now part.entry.at p.0 p.1 p.2) }
 {
     let (first, more) = part.cut(b' ');
     let (second, more) = more?.cut(b' ');
-    match more {
-        None => Some((Word::from(first), Word::from(second))),
-        Some(_) => None,
-    }
+    Some((Word::from(first), Word::from(second), more))
 }

@@ -21,6 +21,6 @@ returns-in-Ok-clause-cases c = λ ready.
     let new = c.next.new.self in
     let line = c.in-Ok.line.bytes.now in
     let read : (TooLong (rest_of old) → ⊥) × FirstLine (rest_of old) line (rest_of new) × (new.read ≡ old.read + 1) = rw c.in-Ok.is at c.in_ok-line.ensures.steps in
-    line_next (console_of c.args.self.now) (console_of (record { lines = new; pool = c.args.self.now.pool; allocator = c.args.self.now.allocator })) _ line _ c.answer_line.result
+    line_next (console_of c.args.self.now) (console_of (record { lines = new; pool = c.args.self.now.pool })) _ line _ c.answer_line.result
     c.answer_line.new.self.lines.read read.0 read.1 read.2 refl (c.answer_line.ensures.answered ready (omega (arith, read.2))) c.answer_line.ensures.read
     (mapped_shows _ c.answer_line.result c.map_err-answer.result _ c.map_err-answer.ensures.cases (λ layer fault told. search rules))
