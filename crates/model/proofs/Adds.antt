@@ -1,22 +1,22 @@
--- A new head, with a hole as root, joins the rows: create keeps a sound pool sound.
-use Rattle.std.proofs.Common.{◌≡◌, ℕ, zero, suc, ◌/◌, ◌%◌, false, ltb, ◌⊎◌, List, Some, None, Option, sym, refl, ap, ◌∙◌, subst, inl, inr, true≢false, arith}
-use Rattle.std.proofs.lemmas.Bool.{cases_eq}
-use Rattle.blocks.proofs.Counts.{count_empty}
-use Rattle.ordered.proofs.Additions.{no_index_of, length_with}
-use Rattle.ordered.proofs.Edits.{ascending_with}
-use Rattle.records.specs.Keys.{number_of}
-use Rattle.records.specs.declared.rows.Kind.TheVariants.{Head, Snapshot}
+-- The row of a new head joins the rows of a sound pool: its places are those of its previous, and the pool stays sound.
+--     at_hole     below a hole there are holes
+--     joined      a sound pool with the row of a new head is sound
+--     created     create keeps a sound pool sound
+use Rattle.std.proofs.Common.{◌≡◌, ℕ, zero, suc, ◌/◌, ◌%◌, ◌<◌, ◌≤◌, List, Some, None, Option, sym, refl, ap, ◌∙◌, subst, arith}
 use Rattle.records.specs.declared.rows.Pointer.{Pointer}
 use Rattle.records.specs.declared.rows.Row.{Row}
-use Rattle.tree.specs.Trees.{fan, child, at}
+use Rattle.tree.specs.Trees.{fan, child, at, Holds}
 use Rattle.tree.proofs.Places.{at_root, at_down, hole_child}
-use Rattle.model.specs.Datasets.{State, Dataset, IsHead, IsSnapshot, row_stamp, stamp, base, Has, Reaches, Young, head_row}
-use Rattle.model.specs.Limits.{IsDatasetNumber, Height}
+use Rattle.model.specs.Datasets.{State, Dataset, kind_stamp, row_stamp, stamp, base, Has, Reaches, Young, Dead, Buried, head_row}
+use Rattle.model.specs.Figures.{HowMany}
 use Rattle.model.specs.Questions.{questions, AllYes}
-use Rattle.model.specs.Soundness.{HowMany, Shape, Family, Pointers, BirthLaw, OwnedReached, DeadLists, Born, Sound}
+use Rattle.model.specs.Soundness.{Pointers, BirthLaw, OwnedReached, DeadLists, Born, Sound}
 use Rattle.model.specs.Steps.{with_row}
 use Rattle.model.specs.declared.Call.TheVariants.{Create}
-use Rattle.model.proofs.Rows.{chain, one, some_none, row_of, same_row, added_here, added_other}
+use Rattle.model.proofs.Ancestors.{base_some}
+use Rattle.model.proofs.Joins.{Joins, row_new, row_other, row_kept, row_old, each_row, shape_joined, family_joined}
+use Rattle.model.proofs.Rows.{some_none, same_row, added_other}
+use Rattle.model.proofs.Sums.{alike, none}
 
 -- below a hole there are holes
 pub at_hole : (mem : List ℕ) (d i : ℕ) → at mem None d i ≡ None
@@ -24,229 +24,215 @@ at_hole mem zero i = at_root mem None i
 at_hole mem (suc d) i =
     at_down mem None d i ∙ ap (λ (o : Option Pointer). child mem o (i % fan)) (at_hole mem d (i / fan)) ∙ hole_child mem (i % fan)
 
-module _ (s : State) (n h : ℕ) (sound : Sound s) (asked : AllYes (questions s (Create n h))) where
-  -- the new row, and the state with it
-  abbrev new : Row
-  new = head_row n h
+-- rows with one tree have the same places
+same_tree : (mem : List ℕ) (x y : Row) (d i : ℕ) (q : Pointer) → x.height ≡ y.height → x.root ≡ y.root → Holds mem x.root x.height d i q → Holds mem y.root y.height d i q
+same_tree mem x y d i q height root holds = record { deep = omega (arith, holds.deep); wide = holds.wide; here = ap (λ (o : Option Pointer). at mem o d i) (sym root) ∙ holds.here }
 
+module _ (s : State) (new : Row) (joins : Joins s new) (sound : Sound s) where
   abbrev t : State
   t = with_row s new
 
-  -- n has the new row, and all others have theirs
-  here : Dataset t n new
-  here = added_here s.rows new n refl asked.1.0
+  abbrev n : ℕ
+  n = new.number
 
-  others : (m : ℕ) → (m ≡ n → ⊥) → row_of t.rows m ≡ row_of s.rows m
-  others m other = added_other s.rows new m asked.1.0 other
+  -- what is so of the new row, and of each that was there, is so of each row
+  each : {P : ℕ → Row → Type 0} → P n new → ((m : ℕ) (x : Row) → Dataset s m x → P m x) → (m : ℕ) (x : Row) → Dataset t m x → P m x
+  each = each_row s new joins
 
-  old_other : (m : ℕ) (x : Row) → Dataset s m x → m ≡ n → ⊥
-  old_other m x there e = some_none _ x there (ap (row_of s.rows) e ∙ asked.1.0)
+  -- a place that was there is as before
+  place_kept : (m d i : ℕ) (q : Pointer) → Has s m d i q → Has t m d i q
+  place_kept m d i q has = record { row = has.row; found = row_kept s new joins m has.row has.found; holds = has.holds }
 
-  kept : (m : ℕ) (x : Row) → Dataset s m x → Dataset t m x
-  kept m x there = others m (old_other m x there) ∙ there
+  place_old : (m d i : ℕ) (x : Row) (q : Pointer) → Dataset s m x → Has t m d i q → Has s m d i q
+  place_old m d i x q old has = record { row = has.row; found = row_old s new joins m has.row x old has.found; holds = has.holds }
 
-  row_cases : (m : ℕ) (x : Row) → Dataset t m x → ((m ≡ n) × (x ≡ new)) ⊎ Dataset s m x
-  row_cases m x there = go (cases_eq m n)
+  -- the places of the new head are those of its previous
+  place_new : (d i : ℕ) (q : Pointer) → Has t n d i q → (j : ℕ) × (new.previous ≡ Some j) × Has s j d i q
+  place_new d i q has = go new.previous refl
     where
-      go : (m ≡ n) ⊎ (m ≡ n → ⊥) → ((m ≡ n) × (x ≡ new)) ⊎ Dataset s m x
-      go (inl e) = inl (e, same_row t.rows n x new (subst (λ j. Dataset t j x) e there) here)
-      go (inr other) = inr (sym (others m other) ∙ there)
+      holds : Holds s.memory new.root new.height d i q
+      holds = subst (λ (x : Row). Holds s.memory x.root x.height d i q) (same_row t.rows n has.row new has.found (row_new s new joins)) has.holds
 
-  -- the row of a dataset that was there
-  old_row : (m : ℕ) (x y : Row) → Dataset s m y → Dataset t m x → Dataset s m x
-  old_row m x y old there = subst (Dataset s m) (same_row t.rows m y x (kept m y old) there) old
+      go : (o : Option ℕ) → new.previous ≡ o → (j : ℕ) × (new.previous ≡ Some j) × Has s j d i q
+      go None is = absurd (some_none _ q holds.here (ap (λ (o : Option Pointer). at s.memory o d i) (joins.hole is) ∙ at_hole s.memory d i))
+      go (Some j) is =
+          let (y, _, found, _, height, root) = joins.tree j is in
+          (j, is, record { row = y; found = found; holds = same_tree s.memory new y d i q (sym height) (sym root) holds })
 
-  -- what has a previous or is a snapshot was there
-  old_next : (m j : ℕ) (x : Row) → Dataset t m x → x.previous ≡ Some j → Dataset s m x
-  old_next m j x there is = go (row_cases m x there)
+  place_previous : (j d i : ℕ) (q : Pointer) → new.previous ≡ Some j → Has s j d i q → Has t n d i q
+  place_previous j d i q is has =
+      let (y, _, found, _, height, root) = joins.tree j is in
+      let holds = subst (λ (x : Row). Holds s.memory x.root x.height d i q) (same_row s.rows j has.row y has.found found) has.holds in
+      record { row = new; found = row_new s new joins; holds = same_tree s.memory y new d i q height root holds }
+
+  -- each place was there before, in some dataset
+  some_place : (m d i : ℕ) (q : Pointer) → Has t m d i q → (j : ℕ) × Has s j d i q
+  some_place m d i q has = each now before m has.row has.found has
     where
-      go : ((m ≡ n) × (x ≡ new)) ⊎ Dataset s m x → Dataset s m x
-      go (inl (_, e)) = absurd (some_none _ j is (ap (λ (z : Row). z.previous) e))
-      go (inr old) = old
+      now : Has t n d i q → (j : ℕ) × Has s j d i q
+      now has = let (j, _, up) = place_new d i q has in (j, up)
 
-  old_snapshot : (m u : ℕ) (x : Row) → Dataset t m x → x.kind ≡ Snapshot u → Dataset s m x
-  old_snapshot m u x there is = go (row_cases m x there)
-    where
-      go : ((m ≡ n) × (x ≡ new)) ⊎ Dataset s m x → Dataset s m x
-      go (inl (_, e)) = absurd (let head : x.kind ≡ Head None = ap (λ (z : Row). z.kind) e in let z : ◌≡◌ {A = ℕ} 0 1 = cc in omega arith)
-      go (inr old) = old
-
-  -- the places are those of before
-  has_kept : (m d i : ℕ) (q : Pointer) → Has s m d i q → Has t m d i q
-  has_kept m d i q has = record { row = has.row; found = kept m has.row has.found; holds = has.holds }
-
-  has_old : (m d i : ℕ) (q : Pointer) → Has t m d i q → Has s m d i q
-  has_old m d i q has = go (row_cases m has.row has.found)
-    where
-      go : ((m ≡ n) × (has.row ≡ new)) ⊎ Dataset s m has.row → Has s m d i q
-      go (inl (_, e)) = absurd (some_none _ q has.holds.here (ap (λ (z : Row). at s.memory z.root d i) e ∙ at_hole s.memory d i))
-      go (inr old) = record { row = has.row; found = old; holds = has.holds }
+      before : (m : ℕ) (x : Row) → Dataset s m x → Has t m d i q → (j : ℕ) × Has s j d i q
+      before m x old has = (m, place_old m d i x q old has)
 
   reach_kept : (m b : ℕ) → Reaches s m b → Reaches t m b
-  reach_kept m b (q, (d, i, has), e) = (q, (d, i, has_kept m d i q has), e)
+  reach_kept m b (q, (d, i, has), e) = (q, (d, i, place_kept m d i q has), e)
 
-  reach_old : (m b : ℕ) → Reaches t m b → Reaches s m b
-  reach_old m b (q, (d, i, has), e) = (q, (d, i, has_old m d i q has), e)
+  reach_old : (m b : ℕ) (x : Row) → Dataset s m x → Reaches t m b → Reaches s m b
+  reach_old m b x old (q, (d, i, has), e) = (q, (d, i, place_old m d i x q old has), e)
 
-  -- the stamps of what was there are as before
-  stamp_kept : (o : Option ℕ) → ((j : ℕ) → o ≡ Some j → (x : Row) × Dataset s j x) → stamp t o ≡ stamp s o
-  stamp_kept None there = refl
-  stamp_kept (Some j) there = ap (row_stamp s.group) (others j (old_other j (there j refl).0 (there j refl).1))
-
+  -- a previous that was there has the stamp that it had
   base_kept : (m : ℕ) (x : Row) → Dataset s m x → base t x ≡ base s x
   unfolding base
-  base_kept m x there = stamp_kept x.previous (λ j is. (let up = sound.family.previous m j x there is in (up.0, up.2)))
+  base_kept m x old = go x.previous (λ j is. (let (y, _, found, _, _, _) = sound.family.previous m j x old is in row_other s new joins j y found))
+    where
+      go : (o : Option ℕ) → ((j : ℕ) → o ≡ Some j → j ≡ n → ⊥) → stamp t o ≡ stamp s o
+      go None other = refl
+      go (Some j) other = ap (row_stamp s.group) (added_other s.rows new j joins.unused (other j refl))
+
+  -- what the new head has is no younger than its previous, which is older than the group
+  births_new : (d i : ℕ) (q : Pointer) → Has t n d i q → (1 ≤ q.birth) × (q.birth ≤ base t new) × (base t new < s.group)
+  births_new d i q has =
+      let (j, is, up) = place_new d i q has in
+      let (y, g, found, kind, _, _) = joins.tree j is in
+      let born = sound.pointers.births j d i y q found up in
+      let stamp = base_some t new y j g is (row_kept s new joins j y found) kind in
+      (born.0, omega (arith, born.1, ap (kind_stamp s.group) kind, stamp), omega (arith, stamp, sound.shape.stamps j g (y, found, kind)))
 
   young_kept : (m b : ℕ) → Young s m b → Young t m b
-  young_kept m b (x, q, there, (d, i, has), young, e) = (x, q, kept m x there, (d, i, has_kept m d i q has), omega (arith, base_kept m x there), e)
+  young_kept m b (x, q, old, (d, i, has), young, e) = (x, q, row_kept s new joins m x old, (d, i, place_kept m d i q has), omega (arith, base_kept m x old), e)
 
+  -- the new head has no young blocks, and every other dataset has those that it had
   young_old : (m b : ℕ) → Young t m b → Young s m b
-  young_old m b (x, q, there, (d, i, has), young, e) =
-      let was = has_old m d i q has in
-      let old = old_row m x was.row was.found there in
-      (x, q, old, (d, i, was), omega (arith, base_kept m x old), e)
-
-  -- an owner of what was there is not the new head
-  owner_other : (m : ℕ) (x : Row) → Dataset s m x → x.owner ≡ n → ⊥
-  owner_other m x there e = let up = sound.family.owner m x there in old_other x.owner up.1.0 up.1.1 e
-
-  head_kept : (m : ℕ) (o : Option ℕ) → IsHead s m o → IsHead t m o
-  head_kept m o (x, there, is) = (x, kept m x there, is)
-
-  shape : Shape t
-  shape = record {
-    size = sound.shape.size;
-    memory = sound.shape.memory;
-    row_room = sound.shape.row_room;
-    dead_room = sound.shape.dead_room;
-    rows_fit = (let long = length_with number_of ltb s.rows new in let free = asked.1.1.1.0 in omega arith);
-    dead_fit = sound.shape.dead_fit;
-    ordered = ascending_with number_of ltb one chain s.rows new (no_index_of number_of ltb s.rows n asked.1.0) sound.shape.ordered;
-    dead_ordered = sound.shape.dead_ordered;
-    numbers = λ m x there. numbers m x (row_cases m x there);
-    heights = λ m x there. heights m x (row_cases m x there);
-    group = sound.shape.group;
-    stamps = λ m u is. sound.shape.stamps m u (is.0, old_snapshot m u is.0 is.1 is.2, is.2);
-    below = sound.shape.below;
-  }
+  young_old m b (x, q, there, (d, i, has), young, e) = each now before m x there has young
     where
-      numbers : (m : ℕ) (x : Row) → ((m ≡ n) × (x ≡ new)) ⊎ Dataset s m x → IsDatasetNumber m
-      numbers m x (inl (e, _)) = subst IsDatasetNumber (sym e) asked.0
-      numbers m x (inr old) = sound.shape.numbers m x old
+      now : Has t n d i q → base t new < q.birth → Young s n b
+      now has young = absurd (omega (arith, (births_new d i q has).1))
 
-      heights : (m : ℕ) (x : Row) → ((m ≡ n) × (x ≡ new)) ⊎ Dataset s m x → Height x.height
-      heights m x (inl (_, e)) = subst (λ (z : Row). Height z.height) (sym e) asked.1.1.0
-      heights m x (inr old) = sound.shape.heights m x old
+      before : (m : ℕ) (x : Row) → Dataset s m x → Has t m d i q → base t x < q.birth → Young s m b
+      before m x old has young = (x, q, old, (d, i, place_old m d i x q old has), omega (arith, base_kept m x old), e)
 
-  family : Family t
-  family = record {
-    head = λ m o x there is. head m o x is (row_cases m x there);
-    owner = λ m x there. owner m x (row_cases m x there);
-    origin = λ m j is. origin m j is.0 is.2 (row_cases m is.0 is.1);
-    previous = λ m j x there is.
-        (let up = sound.family.previous m j x (old_next m j x there is) is in (up.0, up.1, kept j up.0 up.2, up.3, up.4, up.5));
-    within = λ m j x z there beside is o head.
-        (let old = old_next m j x there is in
-        let up = sound.family.previous m j x old is in
-        let own = sound.family.owner m x old in
-        sound.family.within m j x z old (old_row j z up.0 up.2 beside) is o
-        (head.0, old_row x.owner head.0 own.1.0 own.1.1 head.1, head.2));
-    first = λ m x there is. first m x is (row_cases m x there);
-    alone = λ m j x z there beside owners previous. alone m j x z owners previous (row_cases m x there) (row_cases j z beside);
-    next = λ m u x there is.
-        (let up = sound.family.next m u x (old_snapshot m u x there is) is in (up.0, up.1, kept up.0 up.1 up.2, up.3, up.4));
-  }
-    where
-      head : (m : ℕ) (o : Option ℕ) (x : Row) → x.kind ≡ Head o → ((m ≡ n) × (x ≡ new)) ⊎ Dataset s m x → x.owner ≡ m
-      head m o x is (inl (e, z)) = ap (λ (y : Row). y.owner) z ∙ sym e
-      head m o x is (inr old) = sound.family.head m o x old is
-
-      new_head : (x : Row) → x ≡ new → IsHead t x.owner None
-      new_head x e = (new, ap (λ (y : Row). row_of t.rows y.owner) e ∙ here, refl)
-
-      owner : (m : ℕ) (x : Row) → ((m ≡ n) × (x ≡ new)) ⊎ Dataset s m x → (o : Option ℕ) × IsHead t x.owner o
-      owner m x (inl (_, z)) = (None, new_head x z)
-      owner m x (inr old) = let up = sound.family.owner m x old in (up.0, head_kept x.owner up.0 up.1)
-
-      origin : (m j : ℕ) (x : Row) → x.kind ≡ Head (Some j) → ((m ≡ n) × (x ≡ new)) ⊎ Dataset s m x → (u : ℕ) × IsSnapshot t j u
-      origin m j x is (inl (_, e)) = absurd (let none : x.kind ≡ Head None = ap (λ (y : Row). y.kind) e in let z : ◌≡◌ {A = ℕ} 0 1 = cc in omega arith)
-      origin m j x is (inr old) =
-          let up = sound.family.origin m j (x, old, is) in
-          (up.0, (up.1.0, kept j up.1.0 up.1.1, up.1.2))
-
-      first : (m : ℕ) (x : Row) → x.previous ≡ None → ((m ≡ n) × (x ≡ new)) ⊎ Dataset s m x → IsHead t x.owner None
-      first m x is (inl (_, z)) = new_head x z
-      first m x is (inr old) = head_kept x.owner None (sound.family.first m x old is)
-
-      alone : (m j : ℕ) (x z : Row) → x.owner ≡ z.owner → x.previous ≡ z.previous
-          → ((m ≡ n) × (x ≡ new)) ⊎ Dataset s m x → ((j ≡ n) × (z ≡ new)) ⊎ Dataset s j z → m ≡ j
-      alone m j x z owners previous (inl (e, _)) (inl (f, _)) = e ∙ sym f
-      alone m j x z owners previous (inl (_, e)) (inr old) = absurd (owner_other j z old (sym owners ∙ ap (λ (y : Row). y.owner) e))
-      alone m j x z owners previous (inr old) (inl (_, e)) = absurd (owner_other m x old (owners ∙ ap (λ (y : Row). y.owner) e))
-      alone m j x z owners previous (inr old) (inr was) = sound.family.alone m j x z old was owners previous
-
-  -- the row of a dataset that has a place
-  place_row : (m d i : ℕ) (x : Row) (q : Pointer) → Dataset t m x → Has t m d i q → Dataset s m x
-  place_row m d i x q there has = let was = has_old m d i q has in old_row m x was.row was.found there
-
+  -- blocks, births and pointers
   pointers : Pointers t
   pointers = record {
-    inside = λ m d i q has. sound.pointers.inside m d i q (has_old m d i q has);
-    births = λ m d i x q there has. sound.pointers.births m d i x q (place_row m d i x q there has) (has_old m d i q has);
-    falls = λ m d i q x has above. sound.pointers.falls m d i q x (has_old m (suc d) i q has) (has_old m d (i / fan) x above);
-    full = λ m d i x q there deep has.
-        (let down = sound.pointers.full m d i x q (place_row m d i x q there has) deep (has_old m d i q has) in
-        (down.0, down.1, down.2, has_kept m (suc d) down.0 down.1 down.3));
+    inside = λ m d i q has. (let (j, up) = some_place m d i q has in sound.pointers.inside j d i q up);
+    births = λ m d i x q there has. births d i q m x there has;
+    falls = λ m d i q y has above. falls d i q y m has.row has.found has above;
+    full = λ m d i x q there deep has. full d i q m x there deep has;
   }
+    where
+      births : (d i : ℕ) (q : Pointer) (m : ℕ) (x : Row) → Dataset t m x → Has t m d i q → (1 ≤ q.birth) × (q.birth ≤ kind_stamp s.group x.kind)
+      births d i q = each now (λ m x old has. sound.pointers.births m d i x q old (place_old m d i x q old has))
+        where
+          now : Has t n d i q → (1 ≤ q.birth) × (q.birth ≤ kind_stamp s.group new.kind)
+          now has = let (first, old, low) = births_new d i q has in (first, omega (arith, ap (kind_stamp s.group) joins.kind))
 
+      falls : (d i : ℕ) (q y : Pointer) (m : ℕ) (x : Row) → Dataset t m x → Has t m (suc d) i q → Has t m d (i / fan) y → q.birth ≤ y.birth
+      falls d i q y = each now before
+        where
+          now : Has t n (suc d) i q → Has t n d (i / fan) y → q.birth ≤ y.birth
+          now has above =
+              let (j, is, up) = place_new (suc d) i q has in
+              let (l, also, high) = place_new d (i / fan) y above in
+              let same : l ≡ j = cc in
+              sound.pointers.falls j d i q y up (subst (λ k. Has s k d (i / fan) y) same high)
+
+          before : (m : ℕ) (x : Row) → Dataset s m x → Has t m (suc d) i q → Has t m d (i / fan) y → q.birth ≤ y.birth
+          before m x old has above = sound.pointers.falls m d i q y (place_old m (suc d) i x q old has) (place_old m d (i / fan) x y old above)
+
+      full : (d i : ℕ) (q : Pointer) (m : ℕ) (x : Row) → Dataset t m x → d < x.height → Has t m d i q → (l : ℕ) × (y : Pointer) × (l / fan ≡ i) × Has t m (suc d) l y
+      full d i q = each now before
+        where
+          now : d < new.height → Has t n d i q → (l : ℕ) × (y : Pointer) × (l / fan ≡ i) × Has t n (suc d) l y
+          now deep has =
+              let (j, is, up) = place_new d i q has in
+              let (x, _, found, _, height, _) = joins.tree j is in
+              let (l, y, e, down) = sound.pointers.full j d i x q found (omega (arith, height)) up in
+              (l, y, e, place_previous j (suc d) l y is down)
+
+          before : (m : ℕ) (x : Row) → Dataset s m x → d < x.height → Has t m d i q → (l : ℕ) × (y : Pointer) × (l / fan ≡ i) × Has t m (suc d) l y
+          before m x old deep has =
+              let (l, y, e, down) = sound.pointers.full m d i x q old deep (place_old m d i x q old has) in
+              (l, y, e, place_kept m (suc d) l y down)
+
+  -- all that the new head has, its previous has
   birth_law : BirthLaw t
-  birth_law m d i x q there has old =
-      let was = place_row m d i x q there has in
-      let up = sound.birth_law m d i x q was (has_old m d i q has) (omega (arith, base_kept m x was)) in
-      (up.0, up.1, has_kept up.0 d i q up.2)
+  birth_law m d i x q = each now before m x
+    where
+      now : Has t n d i q → q.birth ≤ base t new → (j : ℕ) × (new.previous ≡ Some j) × Has t j d i q
+      now has low = let (j, is, up) = place_new d i q has in (j, is, place_kept j d i q up)
 
+      before : (m : ℕ) (x : Row) → Dataset s m x → Has t m d i q → q.birth ≤ base t x → (j : ℕ) × (x.previous ≡ Some j) × Has t j d i q
+      before m x old has low =
+          let (j, is, up) = sound.birth_law m d i x q old (place_old m d i x q old has) (omega (arith, base_kept m x old)) in
+          (j, is, place_kept j d i q up)
+
+  -- no block is reached that was not
   owned : OwnedReached t
   owned b = (
-    (λ own. (let up = (sound.owned b).0 own in (up.0, reach_kept up.0 b up.1))),
-    (λ (m, reach). (sound.owned b).1 (m, reach_old m b reach)),
+    (λ own. (let (m, reach) = (sound.owned b).0 own in (m, reach_kept m b reach))),
+    (λ (m, (q, (d, i, has), e)). (let (j, up) = some_place m d i q has in (sound.owned b).1 (j, (q, (d, i, up), e)))),
   )
 
+  -- the dead list of the new head is empty, and all others are as before
   dead : DeadLists t
-  dead m q = (
-    (λ buried. (let up = (sound.dead m q).0 buried in
-        (up.0, (up.1.0, kept m up.1.0 up.1.1, up.1.2), (up.2.0, up.2.1, has_kept up.0 up.2.0 up.2.1 q up.2.2), λ reach. up.3 (reach_old m q.block reach)))),
-    (λ (j, (x, there, is), (d, i, has), gone). (sound.dead m q).1
-        (j, (x, old_next m j x there is, is), (d, i, has_old j d i q has), λ reach. gone (reach_kept m q.block reach))),
-  )
-
-  born : Born t
-  born m x there = go (row_cases m x there)
+  dead m q = ((λ buried. there ((sound.dead m q).0 buried)), λ (j, (x, found, is), (d, i, has), lost). back j d i has m x found is lost)
     where
-      go : ((m ≡ n) × (x ≡ new)) ⊎ Dataset s m x → HowMany (Young t m) s.size x.born
-      go (inl (e, z)) = record {
-        test = λ b. false;
-        tells = λ b low. ((λ is. absurd (true≢false (sym is))), (λ young. absurd (let old = young_old m b young in old_other m old.0 old.2 e)));
-        counted = ap (λ (y : Row). y.born) z ∙ sym (count_empty (λ b. false) s.size (λ b low. refl));
-      }
-      go (inr old) =
-          let was = sound.born m x old in
-          record {
-            test = was.test;
-            tells = λ b low. ((λ is. young_kept m b ((was.tells b low).0 is)), (λ young. (was.tells b low).1 (young_old m b young)));
-            counted = was.counted;
-          }
+      there : Dead s m q → Dead t m q
+      there (j, (x, old, is), (d, i, has), lost) =
+          (j, (x, row_kept s new joins m x old, is), (d, i, place_kept j d i q has), λ reach. lost (reach_old m q.block x old reach))
+
+      back : (j d i : ℕ) → Has t j d i q → (m : ℕ) (x : Row) → Dataset t m x → x.previous ≡ Some j → (Reaches t m q.block → ⊥) → Buried s m q
+      back j d i has = each now before
+        where
+          now : new.previous ≡ Some j → (Reaches t n q.block → ⊥) → Buried s n q
+          now is lost =
+              let (y, _, found, _, _, _) = joins.tree j is in
+              absurd (lost (q, (d, i, place_previous j d i q is (place_old j d i y q found has)), refl))
+
+          before : (m : ℕ) (x : Row) → Dataset s m x → x.previous ≡ Some j → (Reaches t m q.block → ⊥) → Buried s m q
+          before m x old is lost =
+              let (y, _, found, _, _, _) = sound.family.previous m j x old is in
+              (sound.dead m q).1 (j, (x, old, is), (d, i, place_old j d i y q found has), λ reach. lost (reach_kept m q.block reach))
+
+  -- the new head counts no young block, and every other dataset those that it had
+  born : Born t
+  born = each now before
+    where
+      now : HowMany (Young t n) s.size new.born
+      now = subst (HowMany (Young t n) s.size) (sym joins.born) (none (Young t n) s.size (λ b young. (let (x, _, old, _, _, _) = young_old n b young in row_other s new joins n x old refl)))
+
+      before : (m : ℕ) (x : Row) → Dataset s m x → HowMany (Young t m) s.size x.born
+      before m x old = alike (Young s m) (Young t m) s.size x.born (λ b low. (young_kept m b, young_old m b)) (sound.born m x old)
+
+  -- a sound pool with the row of a new head is sound
+  pub joined : Sound t
+  joined = record {
+    shape = shape_joined s new joins sound;
+    family = family_joined s new joins sound;
+    pointers = pointers;
+    identity = λ m l d e i j q x has also same.
+        (let (a, was) = some_place m d i q has in let (b, beside) = some_place l e j x also in sound.identity a b d e i j q x was beside same);
+    birth_law = birth_law;
+    one_young = λ m l b young also. sound.one_young m l b (young_old m b young) (young_old l b also);
+    owned = owned;
+    dead = dead;
+    born = born;
+  }
 
 -- create keeps a sound pool sound
 pub created : (s : State) (n h : ℕ) → Sound s → AllYes (questions s (Create n h)) → Sound (with_row s (head_row n h))
-created s n h sound asked = record {
-  shape = shape s n h sound asked;
-  family = family s n h sound asked;
-  pointers = pointers s n h sound asked;
-  identity = λ m j d e i l q x has also same.
-      sound.identity m j d e i l q x (has_old s n h sound asked m d i q has) (has_old s n h sound asked j e l x also) same;
-  birth_law = birth_law s n h sound asked;
-  one_young = λ m j b young also. sound.one_young m j b (young_old s n h sound asked m b young) (young_old s n h sound asked j b also);
-  owned = owned s n h sound asked;
-  dead = dead s n h sound asked;
-  born = born s n h sound asked;
-}
+created s n h sound (number, (unused, (height, (room, _)))) = joined s (head_row n h) joins sound
+  where
+    joins : Joins s (head_row n h)
+    joins = record {
+      unused = unused;
+      number = number;
+      height = height;
+      room = room;
+      owner = refl;
+      kind = refl;
+      born = refl;
+      tree = λ j is. absurd (some_none _ j is refl);
+      hole = λ is. refl;
+    }

@@ -8,7 +8,8 @@ use Rattle.records.specs.declared.rows.Row.{Row}
 use Rattle.tree.specs.Trees.{index_at}
 use Rattle.tree.specs.Paths.{new_at}
 use Rattle.model.specs.Datasets.{State, Dataset, base, kind_stamp, Has, Reached, Young}
-use Rattle.model.specs.Soundness.{Sound, Born, HowMany}
+use Rattle.model.specs.Figures.{HowMany}
+use Rattle.model.specs.Soundness.{Sound, Born}
 use Rattle.model.specs.Steps.{Replaced, taken, given, with_root}
 use Rattle.model.proofs.Ancestors.{same_row, base_below}
 use Rattle.model.proofs.Counts.{count_balance}

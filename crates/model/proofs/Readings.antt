@@ -5,8 +5,7 @@
 --     reads_moved               every other position reads as before
 --     write_moved               a granted write moves the places of its head
 --     discard_moved             and so does a granted discard of data
---     reads_last                a position reads what was last written there
-use Rattle.std.proofs.Common.{◌≡◌, ℕ, suc, ◌-◌, ◌^◌, ◌<◌, ◌≤◌, List, [], Some, None, Ok, Option, sym, refl, ap, ◌∙◌, subst, inl, inr, arith, Bor}
+use Rattle.std.proofs.Common.{◌≡◌, ℕ, suc, ◌-◌, ◌^◌, ◌<◌, ◌≤◌, List, [], Some, None, Option, sym, refl, ap, ◌∙◌, subst, inl, inr, arith, Bor}
 use Rattle.std.specs.Option.{option_map}
 use Rattle.records.specs.declared.rows.Kind.TheVariants.{Head}
 use Rattle.records.specs.declared.rows.Pointer.{Pointer}
@@ -14,12 +13,11 @@ use Rattle.records.specs.declared.rows.Row.{Row}
 use Rattle.tree.specs.Trees.{fan, block, at, index_at}
 use Rattle.tree.specs.Paths.{Stay, filled}
 use Rattle.model.specs.Datasets.{State, Dataset, Unused, IsHead, Has, Position, row_reads, reads, head_row}
-use Rattle.model.specs.Laws.{Elsewhere, ReadsLast}
+use Rattle.model.specs.Laws.{Elsewhere}
 use Rattle.model.specs.Questions.{questions, AllYes}
 use Rattle.model.specs.Soundness.{Sound}
-use Rattle.model.specs.Steps.{Replaced, Step, with_row}
-use Rattle.model.specs.declared.Answer.{Answer}
-use Rattle.model.specs.declared.Call.TheVariants.{Create, Write, Discard}
+use Rattle.model.specs.Steps.{Replaced, with_row}
+use Rattle.model.specs.declared.Call.TheVariants.{Write, Discard}
 use Rattle.model.proofs.Adds.{at_hole}
 use Rattle.model.proofs.Moves.{Kin, On, Moved, new_pointer}
 use Rattle.model.proofs.Replacing.{moved}
@@ -28,7 +26,7 @@ use Rattle.model.proofs.Rows as rows
 use Rattle.model.proofs.Places.{Place, one_row, row_of, off_new}
 
 -- a position reads what its pointer leads to
-reads_at : (s : State) (m : ℕ) (x : Row) (i : ℕ) (o : Option Pointer) → Dataset s m x → at s.memory x.root x.height i ≡ o
+pub reads_at : (s : State) (m : ℕ) (x : Row) (i : ℕ) (o : Option Pointer) → Dataset s m x → at s.memory x.root x.height i ≡ o
     → reads s m i ≡ option_map (λ (q : Pointer). block s.memory q.block) o
 unfolding reads
 reads_at s m x i o here is =
@@ -50,7 +48,7 @@ reads_none s m x i here wide none = reads_at s m x i None here (go (at s.memory 
     go (Some q) e = absurd (none q (record { row = x; found = here; holds = record { deep = omega arith; wide = wide; here = e } }))
 
 -- the path ends at its position
-path_end : (h p : ℕ) → index_at h p h ≡ p
+pub path_end : (h p : ℕ) → index_at h p h ≡ p
 path_end h p = let level : h - h ≡ 0 = omega arith in rw level (omega arith)
 
 module _ (s t : State) (n : ℕ) (r : Row) (p k : ℕ) (new : ℕ → ℕ) (sound : Sound s) (path : Moved s t n r p k new) where
@@ -120,36 +118,12 @@ discard_moved s t n p k r sound here (_, (_, ((o, head), (position, _)))) stay r
     stay.only (λ low high. stay.other low) rep
 
 -- a new head reads as holes
-reads_new : (s : State) (n h p : ℕ) → Unused s n → reads (with_row s (head_row n h)) n p ≡ None
+pub reads_new : (s : State) (n h p : ℕ) → Unused s n → reads (with_row s (head_row n h)) n p ≡ None
 reads_new s n h p unused = reads_at (with_row s (head_row n h)) n (head_row n h) p None (added_here s.rows (head_row n h) n refl unused) (at_hole s.memory h p)
 
--- and all that was there reads as before
-reads_beside : (s : State) (n h m i : ℕ) → Unused s n → Position s m i → reads (with_row s (head_row n h)) m i ≡ reads s m i
+-- beside a new row all that was there reads as before
+pub reads_beside : (s : State) (x : Row) (m i : ℕ) → Unused s x.number → Position s m i → reads (with_row s x) m i ≡ reads s m i
 unfolding reads
-reads_beside s n h m i unused (y, here, _) =
-    ap (λ (x : Option Row). row_reads s.memory x i)
-    (added_other s.rows (head_row n h) m unused (λ is. some_none (rows.row_of s.rows n) y (ap (rows.row_of s.rows) (sym is) ∙ here) unused))
-
--- a position reads what was last written there
-pub reads_last : ReadsLast
-reads_last = record { created = created; written = written; discarded = discarded }
-  where
-    created : (s t : State) (n h : ℕ) (a : Answer) → Sound s → Step s (Create n h) (Ok a) t → ((p : ℕ) → reads t n p ≡ None) × ((m i : ℕ) → Position s m i → reads t m i ≡ reads s m i)
-    created s t n h a sound ((_, (unused, _)), (_, e)) =
-        (λ p. ap (λ (x : State). reads x n p) e ∙ reads_new s n h p unused, λ m i position. ap (λ (x : State). reads x m i) e ∙ reads_beside s n h m i unused position)
-
-    written : (s t : State) (n p : ℕ) (text : Bor (List ℕ)) (a : Answer) → Sound s → Step s (Write n p text) (Ok a) t
-        → (reads t n p ≡ Some (filled text.now)) × Elsewhere s t n p
-    written s t n p text a sound (asked, (_, (r, here, rep))) =
-        let path = write_moved s t n p text r sound here asked rep in (
-          reads_written s t n r p (suc r.height) rep.new sound path refl ∙ ap (λ (l : List ℕ). Some l) (rep.memory.stored (omega arith)),
-          reads_moved s t n r p (suc r.height) rep.new sound path rep.memory.others,
-        )
-
-    discarded : (s t : State) (n p : ℕ) (a : Answer) → Sound s → Step s (Discard n p) (Ok a) t → (reads t n p ≡ None) × Elsewhere s t n p
-    discarded s t n p a sound (asked, (_, (r, here, inl (hole, same)))) =
-        let is : at s.memory r.root r.height p ≡ None = rw (path_end r.height p) at hole in
-        (ap (λ (x : State). reads x n p) same ∙ reads_at s n r p None here is, λ m i _ _. ap (λ (x : State). reads x m i) same)
-    discarded s t n p a sound (asked, (_, (r, here, inr (_, (k, stay, rep))))) =
-        let path = discard_moved s t n p k r sound here asked stay rep in
-        (reads_dropped s t n r p k rep.new sound path stay.within, reads_moved s t n r p k rep.new sound path rep.memory.others)
+reads_beside s x m i unused (y, here, _) =
+    ap (λ (z : Option Row). row_reads s.memory z i)
+    (added_other s.rows x m unused (λ is. some_none (rows.row_of s.rows x.number) y (ap (rows.row_of s.rows) (sym is) ∙ here) unused))

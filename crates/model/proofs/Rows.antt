@@ -1,10 +1,10 @@
--- Look-ups in rows, with one row exchanged or one more.
-use Rattle.std.proofs.Common.{◌≡◌, ℕ, true, false, ltb, ◌⊎◌, List, [], ◌∷◌, length, is_some, Some, None, Option, sym, refl, ap, ◌∙◌, inl, inr, arith, rules}
+-- Look-ups in rows, with one row exchanged, one more or one less.
+use Rattle.std.proofs.Common.{◌≡◌, ℕ, true, false, ltb, ◌⊎◌, List, [], ◌∷◌, length, is_some, Some, None, Option, sym, refl, ap, ◌∙◌, subst, inl, inr, arith, rules, ◌≤◌}
 use Rattle.std.proofs.lemmas.Bool.{cases_Bool, cond-true, cond-false, cond_both, ltb-true, lt-ltb}
 use Rattle.ordered.specs.Order.{ExactlyOne, Holds}
-use Rattle.ordered.specs.Tables.{Ascending, same, index_of, record_of, with_record, replaced}
+use Rattle.ordered.specs.Tables.{Ascending, same, index_of, record_of, with_record, without_key, replaced}
 use Rattle.ordered.proofs.Additions.{no_index_of}
-use Rattle.ordered.proofs.Edits.{ascending_replaced, alone_with, alone_replaced}
+use Rattle.ordered.proofs.Edits.{ascending_without, ascending_replaced, alone_with, alone_without, alone_replaced}
 use Rattle.ordered.proofs.Lookups.{missing}
 use Rattle.ordered.proofs.Orders.{same_equal, equal_same}
 use Rattle.records.specs.Keys.{number_of}
@@ -89,3 +89,29 @@ pub added_other : (xs : List Row) (x : Row) (m : ℕ) → row_of xs x.number ≡
 added_other xs x m new other =
     alone_with number_of ltb one chain xs x (no_index_of number_of ltb xs x.number new) m
     ∙ cond-false (same ltb x.number m) (Some x) (row_of xs m) (same_other x.number m other)
+
+-- a row less is found no more, and other rows are found as before
+pub removed_here : (xs : List Row) (n : ℕ) → Ascending number_of (Holds ltb) xs → row_of (without_key number_of ltb xs n) n ≡ None
+removed_here xs n up =
+    alone_without number_of ltb one chain xs n up n
+    ∙ cond-true (same ltb n n) None (row_of xs n) (same_equal ltb one n n refl)
+
+pub removed_other : (xs : List Row) (n m : ℕ) → Ascending number_of (Holds ltb) xs → (m ≡ n → ⊥) → row_of (without_key number_of ltb xs n) m ≡ row_of xs m
+removed_other xs n m up other =
+    alone_without number_of ltb one chain xs n up m
+    ∙ cond-false (same ltb n m) None (row_of xs m) (same_other n m other)
+
+-- there are no more rows than before, in their order
+pub length_removed : (xs : List Row) (n : ℕ) → length (without_key number_of ltb xs n) ≤ length xs
+length_removed [] n = omega arith
+length_removed (x ∷ xs) n =
+    let more = length_removed xs n in
+    cond_both (same ltb x.number n) xs (x ∷ without_key number_of ltb xs n) (λ ys. length ys ≤ length (x ∷ xs)) (λ is. omega arith) (λ apart. omega arith)
+
+pub order_removed : (xs : List Row) (n : ℕ) → Ascending number_of (Holds ltb) xs → Ascending number_of (Holds ltb) (without_key number_of ltb xs n)
+order_removed = ascending_without number_of ltb one chain
+
+-- what holds of the row of n holds of the row of m, where m is n
+pub at_number : (xs : List Row) (P : ℕ → Row → Type 0) (n : ℕ) (y : Row) → row_of xs n ≡ Some y → P n y → (m : ℕ) (x : Row) → row_of xs m ≡ Some x → m ≡ n → P m x
+at_number xs P n y here holds m x there e =
+    subst (λ j. P j x) (sym e) (subst (P n) (same_row xs n y x here (subst (λ j. row_of xs j ≡ Some x) e there)) holds)

@@ -1,4 +1,6 @@
 pub mod Datasets
+pub mod Families
+pub mod Figures
 pub mod Laws
 pub mod Limits
 pub mod Paths

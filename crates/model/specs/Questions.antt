@@ -7,16 +7,17 @@
 use Rattle.std.specs.Prelude.{◌≡◌, ℕ, suc, ◌+◌, ◌*◌, ◌<◌, ◌≤◌, Bool, false, ◌⊎◌, List, [], ◌∷◌, length, Option}
 use Rattle.faults.specs.declared.Layer.{Layer}
 use Rattle.faults.specs.declared.Layer.TheVariants.{Pool, Memory}
-use Rattle.faults.specs.declared.PoolCause.TheVariants.{DatasetNumber, NoDataset, WrongKind, NumberUsed, OutOfRange}
-use Rattle.faults.specs.declared.MemoryCause.TheVariants.{RowsFull, BlocksShort, DeadFull, BadShape, NotEmpty}
+use Rattle.faults.specs.declared.PoolCause.TheVariants.{DatasetNumber, NoDataset, WrongKind, NumberUsed, OutOfRange, HasClones, HasSnapshots}
+use Rattle.faults.specs.declared.MemoryCause.TheVariants.{RowsFull, GroupsSpent, BlocksShort, DeadFull, BadShape, NotEmpty}
 use Rattle.records.specs.declared.rows.Row.{Row}
 use Rattle.tree.specs.Trees.{block_size}
 use Rattle.tree.specs.Paths.{Stay}
-use Rattle.model.specs.Datasets.{State, Dataset, Unused, IsHead, Position, free}
+use Rattle.model.specs.Datasets.{State, Dataset, Unused, IsHead, IsSnapshot, Position, free}
+use Rattle.model.specs.Families.{IsClone, OwnSnapshot}
 use Rattle.model.specs.Limits.{IsDatasetNumber, Height, PoolSize, RowRoom, DeadRoom}
 use Rattle.model.specs.Paths.{Hole, sinking}
 use Rattle.model.specs.declared.Call.{Call}
-use Rattle.model.specs.declared.Call.TheVariants.{Create, Write, Discard, Read}
+use Rattle.model.specs.declared.Call.TheVariants.{Create, Write, Discard, Read, Snapshot, Clone, Destroy, Unique, Used}
 
 -- a statement, and the cause of the refusal where it does not hold
 pub record Question : Type 1 where
@@ -48,6 +49,10 @@ exists s n = ask ((r : Row) × Dataset s n r) (Pool NoDataset)
 abbrev pub head : State → ℕ → Question
 head s n = ask ((o : Option ℕ) × IsHead s n o) (Pool WrongKind)
 
+-- is it a snapshot?
+abbrev pub snapshot : State → ℕ → Question
+snapshot s n = ask ((t : ℕ) × IsSnapshot s n t) (Pool WrongKind)
+
 -- is the number unused?
 abbrev pub unused : State → ℕ → Question
 unused s n = ask (Unused s n) (Pool NumberUsed)
@@ -56,9 +61,21 @@ unused s n = ask (Unused s n) (Pool NumberUsed)
 abbrev pub in_range : Type 0 → Question
 in_range P = ask P (Pool OutOfRange)
 
+-- has it no clones?
+abbrev pub no_clones : State → ℕ → Question
+no_clones s n = ask ((m : ℕ) → IsClone s n m → ⊥) (Pool HasClones)
+
+-- has it no snapshots of its own?
+abbrev pub no_snapshots : State → ℕ → Question
+no_snapshots s n = ask ((m : ℕ) → OwnSnapshot s n m → ⊥) (Pool HasSnapshots)
+
 -- has the row table a free place?
 abbrev pub free_row : State → Question
 free_row s = ask (length s.rows < s.row_room) (Memory RowsFull)
+
+-- is there a group number to come?
+abbrev pub group_left : State → Question
+group_left s = ask (s.group < 65535) (Memory GroupsSpent)
 
 -- are as many blocks free as the call takes of dataset n?
 abbrev pub free_blocks : State → ℕ → (Row → ℕ → Type 0) → Question
@@ -93,6 +110,11 @@ questions s (Discard n p) =
     numbered n ∷ exists s n ∷ head s n ∷ in_range (Position s n p)
     ∷ free_blocks s n (DiscardTakes s p) ∷ dead_fits s n (DiscardSinks s p) ∷ []
 questions s (Read n p) = numbered n ∷ exists s n ∷ in_range (Position s n p) ∷ []
+questions s (Snapshot n m) = numbered n ∷ numbered m ∷ exists s n ∷ head s n ∷ unused s m ∷ free_row s ∷ group_left s ∷ []
+questions s (Clone m n) = numbered m ∷ numbered n ∷ exists s m ∷ snapshot s m ∷ unused s n ∷ free_row s ∷ []
+questions s (Destroy n) = numbered n ∷ exists s n ∷ no_clones s n ∷ no_snapshots s n ∷ []
+questions s (Unique n) = numbered n ∷ exists s n ∷ no_clones s n ∷ []
+questions s (Used n) = numbered n ∷ exists s n ∷ head s n ∷ []
 
 -- the questions before block memory and two tables of so many places are formatted for an allocator: do they suit a
 -- pool of its size, and does it own nothing?

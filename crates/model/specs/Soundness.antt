@@ -1,5 +1,4 @@
 -- What is always true of a pool from its formatting on.
---     HowMany P n k       k of the numbers below n have the property P
 --     Shape s             sizes, ranges and orders
 --     Family s            previous, owner and origin
 --     Pointers s          blocks in range, births that fall going down, no indirect block with holes only
@@ -10,8 +9,7 @@
 --     DeadLists s         the dead table is the dead lists of all datasets
 --     Born s              each row counts the blocks younger than its previous
 --     Sound s             all of these
-use Rattle.std.specs.Prelude.{◌≡◌, ℕ, suc, ◌*◌, ◌/◌, ◌<◌, ◌≤◌, Bool, true, ◌⊎◌, ◌↔◌, length, Some, None, Option, ◌≢◌, nat_lt}
-use Rattle.blocks.specs.Sets.{count}
+use Rattle.std.specs.Prelude.{◌≡◌, ℕ, suc, ◌*◌, ◌/◌, ◌<◌, ◌≤◌, true, ◌⊎◌, ◌↔◌, length, Some, None, Option, ◌≢◌, nat_lt}
 use Rattle.ordered.specs.Order.{Holds}
 use Rattle.ordered.specs.Tables.{Ascending}
 use Rattle.records.specs.Keys.{number_of, dead_key, dead_below}
@@ -20,13 +18,8 @@ use Rattle.records.specs.declared.rows.Pointer.{Pointer}
 use Rattle.records.specs.declared.rows.Row.{Row}
 use Rattle.tree.specs.Trees.{block_size, fan}
 use Rattle.model.specs.Datasets.{State, Dataset, IsHead, IsSnapshot, kind_stamp, base, Has, Reached, Young, Dead, Buried}
+use Rattle.model.specs.Figures.{HowMany}
 use Rattle.model.specs.Limits.{IsDatasetNumber, Height, Group, PoolSize, RowRoom, DeadRoom}
-
--- k of the numbers below n have the property P: some test tells which, and k of them pass it
-pub record HowMany (P : ℕ → Type 0) (n k : ℕ) : Type 0 where
-  pub test : ℕ → Bool
-  pub tells : (b : ℕ) → b < n → (test b ≡ true) ↔ P b
-  pub counted : k ≡ count test n
 
 pub record Shape (s : State) : Type 0 where
   -- block memory and both tables have sizes that a pool may have

@@ -5,7 +5,7 @@
 // written there.
 #![tactic(auto)]
 
-ghost use Rattle.model.specs.Laws.{FormattedSound, StepsKeepSound, ReadsLast};
+ghost use Rattle.model.specs.Laws.{EitherOrder, FormattedSound, OwnersTell, ReadsLast, StepsKeepSound, UsedIsSum};
 
 // A call, as a script or a list of calls names it.
 #[derive(Clone, Copy, Debug, PartialEq, Eq)]
@@ -27,6 +27,25 @@ pub enum Call<'t> {
         number: u32,
         position: u32,
     },
+    // Takes `snapshot` of head `number`.
+    Snapshot {
+        number: u32,
+        snapshot: u32,
+    },
+    // Makes head `number` of a snapshot.
+    Clone {
+        snapshot: u32,
+        number: u32,
+    },
+    Destroy {
+        number: u32,
+    },
+    Unique {
+        number: u32,
+    },
+    Used {
+        number: u32,
+    },
 }
 
 // What a granted change answers: how many blocks are owned after it and were not before, and the reverse.
@@ -42,6 +61,8 @@ pub enum Answer {
     Done(Changed),
     // The bytes of a block, or nothing at a hole.
     Bytes(Option<[u8; 64]>),
+    // A number of blocks.
+    Count(u32),
 }
 
 // A pool just formatted is sound.
@@ -57,7 +78,23 @@ pub fn steps_keep_sound()
 {}
 
 // A position reads what was last written there, and all others read as before.
-#[tactic(auto, using(crate::proofs::Readings::reads_last))]
+#[tactic(auto, using(crate::proofs::Lasts::reads_last))]
 pub fn reads_are_last_writes()
     ensures { ReadsLast }
+{}
+
+// A file system is the rows that its head owns.
+pub fn owners_tell()
+    ensures { OwnersTell }
+{}
+
+// What a file system uses is a sum over its rows.
+pub fn used_is_a_sum()
+    ensures { UsedIsSum }
+{}
+
+// Two snapshots destroyed in either order leave the same pool and give back as many blocks.
+#[tactic(auto, using(crate::proofs::Orders::either_order))]
+pub fn either_order_leaves_the_same()
+    ensures { EitherOrder }
 {}

@@ -79,7 +79,7 @@ module _ {R K : Type 0} (key : R → K) (below : K → K → Bool) (one : (a b :
       grind (arith, equal_same below one (key x) q, same_above below one (key r) q, alone_with xs r (missing_parts key below x xs (key r) absent).1 q)
 
   -- no record past the first has its key
-  none_later : (xs : List R) (a : K) → All (λ y. Holds below a (key y)) xs → record_of key below xs a ≡ None
+  pub none_later : (xs : List R) (a : K) → All (λ y. Holds below a (key y)) xs → record_of key below xs a ≡ None
   none_later [] a high = refl
   none_later (x ∷ xs) a high = cond-false _ _ _ (same_above below one (key x) a high.0) ∙ none_later xs a high.1
 

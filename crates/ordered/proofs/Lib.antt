@@ -1,9 +1,16 @@
 pub mod Additions
 pub mod Calls
+pub mod Carries
 pub mod Edits
+pub mod Equals
+pub mod Filters
+pub mod Gathers
+pub mod Joins
 pub mod Lookups
 pub mod Orders
+pub mod Pairs
 pub mod Parts
 pub mod Rekeys
+pub mod Runs
 pub mod Search
 pub mod Shifts

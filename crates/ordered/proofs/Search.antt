@@ -27,7 +27,7 @@ module _ {R K : Type 0} (key : R → K) (below : K → K → Bool) (one : (a b :
     over : (j : ℕ) (d : R) → i ≤ j → j < length xs → below (key (get_or xs j d)) k ≡ false
     over j d le lt = grind (arith, cases_eq i j, has d, up i j d, one (key (get_or xs j d)) k)
 
-    found_index : Some i ≡ index_of key below xs k
+    pub found_index : Some i ≡ index_of key below xs k
     found_index = sym (at_index key below xs k i within (λ j d lt. same_below below one _ _ (under j d lt)) (λ d. same_equal below one _ _ (has d)))
 
     found_rank : i ≡ rank_of key below xs k

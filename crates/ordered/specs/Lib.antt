@@ -1,3 +1,4 @@
 pub mod Lent
+pub mod Lists
 pub mod Order
 pub mod Tables

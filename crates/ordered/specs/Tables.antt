@@ -4,7 +4,7 @@
 --     Ascending key below xs              each key is below the next, so no key stands twice
 --     index_of, record_of                 where the record with a key stands, and that record; nothing where none has it
 --     rank_of                             how many records have keys below a key
---     part_of                             the records with keys from one key on and below another
+--     part_of, without_part               the records with keys from one key on and below another, and the others
 --     with_record, without_key, replaced  xs with one more record, without one, with one in the place of another
 --     fits_at, fits_over                  whether a key can stand at an index in the place of the one there
 --     Alone                               two lists of records differ at one key alone
@@ -41,6 +41,10 @@ rank_of key below (x ∷ xs) k = if below (key x) k then suc (rank_of key below 
 -- the records whose keys are not below `low` and are below `high`
 abbrev pub part_of : {R K : Type 0} → (R → K) → (K → K → Bool) → List R → K → K → List R
 part_of key below xs low high = filter (λ x. not (below (key x) low) && below (key x) high) xs
+
+-- the others: those whose keys are below `low`, or not below `high`
+abbrev pub without_part : {R K : Type 0} → (R → K) → (K → K → Bool) → List R → K → K → List R
+without_part key below xs low high = filter (λ x. below (key x) low || not (below (key x) high)) xs
 
 -- the records with r before the first whose key is not below its own
 abbrev pub with_record : {R K : Type 0} → (R → K) → (K → K → Bool) → List R → R → List R

@@ -1,11 +1,11 @@
 // A table of records in places that the caller lends. The first `count` places hold its records, in the order of their
 // keys; what stands in the others means nothing. Every call returns, whatever the places hold and whatever the count is.
-ghost use Rattle.std.specs.Prelude.{◌≡◌, ◌+◌, ◌-◌, ◌<◌, ◌≤◌, min, true, false, [], length, is_some, IfSome, MatchResult, OnErr, OnOk, if◌then◌else◌, Some, None, nat_le, slice_index_or, slice_set};
+ghost use Rattle.std.specs.Prelude.{◌≡◌, ◌+◌, ◌-◌, ◌<◌, ◌≤◌, min, true, false, [], length, is_some, IfSome, MatchResult, OnErr, OnOk, if◌then◌else◌, Some, None, ◌++◌, take, drop, nat_le, slice_index_or, slice_set};
 ghost use Rattle.std.specs.List.{between, insert, remove};
 ghost use Rattle.std.specs.Result.{result_ok};
 ghost use Rattle.ordered.specs.Lent.{KeptPast, Ordered, Unchanged, records, room};
 ghost use Rattle.ordered.specs.Order.{Holds};
-ghost use Rattle.ordered.specs.Tables.{Alone, index_of, rank_of, record_of, part_of, with_record, without_key, replaced, fits_at, fits_over, either, answer, after};
+ghost use Rattle.ordered.specs.Tables.{Alone, index_of, rank_of, record_of, part_of, without_part, with_record, without_key, replaced, fits_at, fits_over, either, answer, after};
 
 use crate::keys::Key;
 use crate::records::Record;
@@ -23,7 +23,7 @@ pub enum InsertError {
 // clauses below and no invariant here: lent memory may have been altered, and every call must still end and stay inside.
 #[derive(Drop)]
 pub struct Table<'m, R> {
-    places: &'m mut [R],
+    pub(crate) places: &'m mut [R],
     count: usize,
 }
 
@@ -120,6 +120,18 @@ impl<'m, R: Record> Table<'m, R> {
     {
         let at = self.find(key)?;
         Some(self.take_out(at))
+    }
+
+    // Takes out the records with keys from `low` on and below `high`: the ones that `part` answers.
+    pub fn remove_part(&mut self, low: R::Key, high: R::Key)
+        ensures items { Ordered R.keyed R.Key.Key.below self.old → records self.new ≡ without_part R.keyed R.Key.Key.below (records self.old) low high }
+        ensures ordered { Ordered R.keyed R.Key.Key.below self.old → Ordered R.keyed R.Key.Key.below self.new }
+        ensures past { KeptPast self.old self.new }
+        ensures room { room self.new ≡ room self.old }
+    {
+        let from = self.rank(low);
+        let to = self.rank(high).max(from);
+        self.take_run_out(from, to);
     }
 
     // Puts the record in the place of the one with its key; false where there is none.
@@ -223,10 +235,20 @@ impl<'m, R: Record> Table<'m, R> {
         ensures room { room self.new ≡ room self.old }
     {
         let taken = self.at(at);
-        let count = self.len();
-        self.places.copy_within(at + 1..count, at);
-        self.count = count - 1;
+        self.take_run_out(at, at + 1);
         taken
+    }
+
+    // Takes out the records from one index on and below another.
+    fn take_run_out(&mut self, from: usize, to: usize)
+        requires { (from ≤ to) × (to ≤ length (records self.old)) }
+        ensures items { records self.new ≡ take from (records self.old) ++ drop to (records self.old) }
+        ensures past { KeptPast self.old self.new }
+        ensures room { room self.new ≡ room self.old }
+    {
+        let count = self.len();
+        self.places.copy_within(to..count, from);
+        self.count = count - (to - from);
     }
 
     // Puts a record in the place of the one at that index.

@@ -1,5 +1,13 @@
 pub mod Calls
+pub mod Clearing
+pub mod Copies
+pub mod Destroying
 pub mod Exchange
+pub mod Finds
+pub mod Lists
 pub mod Places
 pub mod Planting
+pub mod Releasing
+pub mod Removing
 pub mod Trees
+pub mod Youngs

@@ -29,13 +29,19 @@ use records::dead::DeadRecord;
 use records::rows::{Kind, Pointer, Row};
 use tree::{BLOCK_BYTES, FreshPath, Path, Route};
 
+mod destroys;
+mod figures;
 mod questions;
+mod snapshots;
 
 // The most rows that a pool keeps.
 pub const MOST_ROWS: usize = 256;
 
 // The most dead records that a pool keeps.
 pub const MOST_DEAD: usize = 32_768;
+
+// The last group number.
+pub const LAST_GROUP: u32 = 65_535;
 
 #[derive(Drop)]
 pub struct Pool<'m, A> {
@@ -166,7 +172,7 @@ impl<'m, A: BlockAllocator + Drop> Pool<'m, A> {
     }
 
     // The row of a head that exists.
-    fn writable(&self, number: u32) -> Result<Row, PoolCause>
+    pub(crate) fn writable(&self, number: u32) -> Result<Row, PoolCause>
         ensures cases { RowsOrdered self.now.rows → MatchResult result (λ row. IsWritable (state_of A.meaning self.now) number row) (λ c. FirstNo (head_questions (state_of A.meaning self.now) number) (OfPool c)) }
     {
         questions::dataset_number(number)?;
@@ -187,7 +193,7 @@ impl<'m, A: BlockAllocator + Drop> Pool<'m, A> {
     }
 
     // The stamp of a snapshot that may be there, 0 where it is not.
-    fn stamp(&self, snapshot: Option<u32>) -> u32
+    pub(crate) fn stamp(&self, snapshot: Option<u32>) -> u32
         ensures value { RowsOrdered self.now.rows → result ≡ stamp (state_of A.meaning self.now) snapshot }
     {
         let Some(number) = snapshot else {
@@ -201,7 +207,7 @@ impl<'m, A: BlockAllocator + Drop> Pool<'m, A> {
     }
 
     // Puts the row in its place. A pool that was asked first has one, so a refusal means that there is no pool.
-    fn add_row(&mut self, row: Row) -> Result<(), PoolCause>
+    pub(crate) fn add_row(&mut self, row: Row) -> Result<(), PoolCause>
         ensures adds { RowsOrdered self.old.rows → HasPlace self.old.rows row → (result ≡ Ok tt) × (state_of A.meaning self.new ≡ with_row (state_of A.meaning self.old) row) }
         ensures allocator { self.new.allocator ≡ self.old.allocator }
     {
@@ -231,8 +237,8 @@ impl<'m, A: BlockAllocator + Drop> Pool<'m, A> {
         Ok(root)
     }
 
-    // Puts the row in its place with its new root and count.
-    fn reroot(&mut self, row: Row) -> Result<(), PoolCause>
+    // Puts the row in the place of the one with its number.
+    pub(crate) fn put_row(&mut self, row: Row) -> Result<(), PoolCause>
         ensures rows { RowsOrdered self.old.rows → is_some (in_rows self.old.rows row.number) ≡ true → (result ≡ Ok tt) × (records self.new.rows ≡ replaced number_of nat_lt (records self.old.rows) row) }
         ensures room { room self.new.rows ≡ room self.old.rows }
         ensures memory { self.new.memory ≡ self.old.memory }
@@ -271,7 +277,7 @@ impl<'m, A: BlockAllocator + Drop> Pool<'m, A> {
             stamp,
             &route.old,
         )?;
-        self.reroot(rerooted(row, root, count, given))?;
+        self.put_row(rerooted(row, root, count, given))?;
         Ok(Changed {
             taken: count,
             given,

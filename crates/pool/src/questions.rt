@@ -1,15 +1,15 @@
 // The questions that are put before a call, each with the cause of its refusal.
 ghost use Rattle.std.specs.Prelude.{◌≡◌, ℕ, ◌+◌, ◌*◌, ◌^◌, ◌<◌, ◌≤◌, true, false, length, Some, None, Option, MatchResult, ◌≢◌};
-ghost use Rattle.faults.specs.declared.PoolCause.TheVariants.{DatasetNumber, NoDataset, NumberUsed, OutOfRange, WrongKind};
-ghost use Rattle.faults.specs.declared.MemoryCause.TheVariants.{BadShape, BlocksShort, DeadFull, NotEmpty, RowsFull};
+ghost use Rattle.faults.specs.declared.PoolCause.TheVariants.{DatasetNumber, HasClones, HasSnapshots, NoDataset, NumberUsed, OutOfRange, WrongKind};
+ghost use Rattle.faults.specs.declared.MemoryCause.TheVariants.{BadShape, BlocksShort, DeadFull, GroupsSpent, NotEmpty, RowsFull};
 ghost use Rattle.blocks.specs.Meanings.{free};
-ghost use Rattle.records.specs.declared.rows.Kind.TheVariants.{Head};
+ghost use Rattle.records.specs.declared.rows.Kind.TheVariants.{Head, Snapshot};
 ghost use Rattle.model.specs.Limits.{IsDatasetNumber, DeadRoom, Height, PoolSize, RowRoom};
 ghost use Rattle.ordered.specs.Lent.{records, room};
-ghost use Rattle.pool.specs.Pools.{in_rows, RowsOrdered};
+ghost use Rattle.pool.specs.Pools.{HasOrigin, RowsOrdered, in_rows};
 ghost use Rattle.tree.specs.Trees.{block_size, fan};
 
-use crate::{MOST_DEAD, MOST_ROWS};
+use crate::{LAST_GROUP, MOST_DEAD, MOST_ROWS};
 use blocks::{BlockAllocator, MOST_BLOCKS};
 use faults::{MemoryCause, PoolCause};
 use ordered::tables::Table;
@@ -84,6 +84,45 @@ pub fn head(row: Row) -> Result<(), PoolCause>
     ensures cases { MatchResult result (λ _. (o : Option ℕ) × (row.kind ≡ Head o)) (λ c. (c ≡ WrongKind) × ((o : Option ℕ) → row.kind ≢ Head o)) }
 {
     ask(matches!(row.kind, Kind::Head { .. }), PoolCause::WrongKind)
+}
+
+// Is it a snapshot?
+pub fn snapshot(row: Row) -> Result<(), PoolCause>
+    ensures cases { MatchResult result (λ _. (t : ℕ) × (row.kind ≡ Snapshot t)) (λ c. (c ≡ WrongKind) × ((t : ℕ) → row.kind ≢ Snapshot t)) }
+{
+    ask(
+        matches!(row.kind, Kind::Snapshot { .. }),
+        PoolCause::WrongKind,
+    )
+}
+
+// Is it the origin of no head?
+pub fn no_clones(rows: &Table<Row>, number: u32) -> Result<(), PoolCause>
+    ensures cases { RowsOrdered rows.now → MatchResult result (λ _. (m : ℕ) → HasOrigin rows.now m number → ⊥) (λ c. (c ≡ HasClones) × ((m : ℕ) × HasOrigin rows.now m number)) }
+{
+    let origin = Some(number);
+    let cloned = rows
+        .records()
+        .iter()
+        .any(|row| row.kind == Kind::Head { origin });
+    ask(!cloned, PoolCause::HasClones)
+}
+
+// Is a head's previous its origin? Then it has no snapshots of its own.
+pub fn no_snapshots(row: Row) -> Result<(), PoolCause>
+    ensures cases { MatchResult result (λ _. (o : Option ℕ) → row.kind ≡ Head o → row.previous ≡ o) (λ c. (c ≡ HasSnapshots) × ((o : Option ℕ) × (row.kind ≡ Head o) × (row.previous ≢ o))) }
+{
+    match row.kind {
+        Kind::Head { origin } => ask(row.previous == origin, PoolCause::HasSnapshots),
+        Kind::Snapshot { .. } => Ok(()),
+    }
+}
+
+// Is there a group to come?
+pub fn group_left(group: u32) -> Result<(), MemoryCause>
+    ensures cases { MatchResult result (λ _. group < 65535) (λ c. (c ≡ GroupsSpent) × (group < 65535 → ⊥)) }
+{
+    ask(group < LAST_GROUP, MemoryCause::GroupsSpent)
 }
 
 // Is it a position of a tree of that height?

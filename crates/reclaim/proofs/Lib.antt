@@ -1,6 +1,9 @@
 pub mod Departs
 pub mod Exchanges
+pub mod Lists
 pub mod Readies
+pub mod Sets
 pub mod Sinks
 pub mod Takes
 pub mod Turns
+pub mod Walks

@@ -1,3 +1,5 @@
+pub mod Giving
 pub mod Leavers
 pub mod Leaving
 pub mod Taking
+pub mod Trees

@@ -5,6 +5,7 @@ ghost use Rattle.ordered.specs.Lent.{records, room};
 ghost use Rattle.reclaim.specs.Leaving.{DeadOrdered, Departed, Ready, sunk};
 ghost use Rattle.reclaim.specs.Leavers.{Able, Left, is_sunk};
 
+use crate::give::give_back;
 use blocks::BlockAllocator;
 use faults::PoolCause;
 use ordered::tables::Table;
@@ -13,7 +14,7 @@ use records::rows::Pointer;
 use tree::LEVELS;
 
 // Whether the block was born after the stamp.
-fn is_young(pointer: Pointer, stamp: u32) -> bool
+pub(crate) fn is_young(pointer: Pointer, stamp: u32) -> bool
     ensures value { result ≡ nat_lt stamp pointer.birth }
 {
     pointer.birth > stamp
@@ -59,9 +60,7 @@ fn leave<A: BlockAllocator>(
     ensures left { A.sound allocator.old → DeadOrdered dead.old → Able (A.meaning allocator.old) (records dead.old) (room dead.old) dataset stamp pointer → MatchResult result (λ given. Left (A.meaning allocator.old) (A.meaning allocator.new) (records dead.old) (records dead.new) dataset stamp pointer given) (λ _. ⊥) }
 {
     if is_young(pointer, stamp) {
-        allocator
-            .give(pointer.block)
-            .map_err(|_| PoolCause::NoPool)?;
+        give_back(allocator, pointer.block)?;
         Ok(true)
     } else {
         dead.insert(record_of(dataset, pointer))

@@ -1,8 +1,9 @@
 // Dead records, found by all that they hold.
-ghost use Rattle.records.specs.Keys.{dead_key, dead_below};
+ghost use Rattle.records.specs.Keys.{dead_key, dead_below, dead_list, dead_moved};
 ghost use Rattle.std.proofs.Common.{rules};
 
 use ordered::keys::Key;
+use ordered::lists::Listed;
 use ordered::records::Record;
 
 // A block that the previous of a dataset reaches and the dataset does not. It is its own key: dataset comes before
@@ -28,4 +29,24 @@ impl Record for DeadRecord {
     fn key(&self) -> DeadRecord {
         *self
     }
+}
+
+// A dataset's dead records are a list of the table.
+impl Listed for DeadRecord {
+    ghost listed = { dead_list };
+
+    ghost moved_to = { dead_moved };
+
+    fn list(&self) -> u32 {
+        self.dataset
+    }
+
+    fn moved(self, list: u32) -> DeadRecord {
+        DeadRecord {
+            dataset: list,
+            ..self
+        }
+    }
+
+    ghost listing = { Prim.search rules };
 }

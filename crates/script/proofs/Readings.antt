@@ -1,5 +1,5 @@
 -- What the words of a line answer to its questions.
-use Rattle.std.proofs.Common.{◌≡◌, ℕ, ◌-◌, ◌≤◌, ◌⊎◌, List, [], ◌∷◌, ◌++◌, length, get_or, take, drop, IsErrAnd, Some, None, Ok, Err, codes, decimal, Option, Result, ok_or, sym, refl, ap, ◌∙◌, subst, inl, inr, append_assoc, arith, ne_eqb}
+use Rattle.std.proofs.Common.{◌≡◌, ℕ, ◌-◌, ◌<◌, ◌≤◌, ◌⊎◌, List, [], ◌∷◌, ◌++◌, length, get_or, take, drop, IsErrAnd, Some, None, Ok, Err, codes, decimal, Option, Result, ok_or, sym, refl, ap, ◌∙◌, subst, inl, inr, append_assoc, arith, ne_eqb}
 use Rattle.std.proofs.lemmas.List.{take_rest}
 use Rattle.std.proofs.lemmas.Result.{MatchResult-weaker, err_from_is_err_and}
 use Rattle.std.specs.Option as options
@@ -9,7 +9,7 @@ use Rattle.faults.specs.declared.ScriptCause.{ScriptCause}
 use Rattle.faults.specs.declared.ScriptCause.TheVariants.{WordCount, Digits, Text}
 use Rattle.model.specs.Questions.{AllYes, FirstNo}
 use Rattle.model.specs.declared.Call.{Call}
-use Rattle.script.specs.Lines.{Each, ReadsCall, line_questions, words_of, wanted, two_numbers, call_text}
+use Rattle.script.specs.Lines.{Each, ReadsAs, ReadsCall, line_questions, words_of, wanted, two_numbers, call_text}
 use Rattle.script.specs.Parts.{Cut, Without}
 use Rattle.script.specs.Words.{words, first_words, Writes, Numeral, IsWord, IsText, TwoWords, value_of}
 use Rattle.script.specs.declared.parts.Part.{Part}
@@ -40,15 +40,15 @@ module _ (b : ℕ) (bs : List ℕ) (n : ℕ) (ws : List (List ℕ)) (want : want
     pub all_yes : Each IsText (drop 3 ws) → AllYes (line_questions (b ∷ 32 ∷ bs))
     all_yes texts = ((b, bs, n, refl, want), (counts as_many, (still, (subst (λ l. Each IsText (drop 3 l)) (sym are) texts, tt))))
 
--- the words of a line of a letter that wants three
-plain : (b : ℕ) (bs : List ℕ) → wanted b ≡ Some 3 → words_of (b ∷ 32 ∷ bs) ≡ (b ∷ []) ∷ words bs
-plain b bs want = rw (ne_eqb b 119 not_w, ne_eqb b 32 not_space) refl
+-- the words of a line of a letter that wants fewer than four
+plain : (b : ℕ) (bs : List ℕ) (n : ℕ) → wanted b ≡ Some n → n < 4 → words_of (b ∷ 32 ∷ bs) ≡ (b ∷ []) ∷ words bs
+plain b bs n want few = rw (ne_eqb b 119 not_w, ne_eqb b 32 not_space) refl
   where
     not_w : b ≡ 119 → ⊥
-    not_w e = let z : ◌≡◌ {A = ℕ} 4 3 = let y : ◌≡◌ {A = Option ℕ} (Some 4) (Some 3) = subst (λ x. wanted x ≡ Some 3) e want in cc in omega arith
+    not_w e = let z : 4 ≡ n = let y : ◌≡◌ {A = Option ℕ} (Some 4) (Some n) = subst (λ x. wanted x ≡ Some n) e want in cc in omega arith
 
     not_space : b ≡ 32 → ⊥
-    not_space e = let z : ◌≡◌ {A = ℕ} 0 1 = let y : ◌≡◌ {A = Option ℕ} None (Some 3) = subst (λ x. wanted x ≡ Some 3) e want in cc in omega arith
+    not_space e = let z : ◌≡◌ {A = ℕ} 0 1 = let y : ◌≡◌ {A = Option ℕ} None (Some n) = subst (λ x. wanted x ≡ Some n) e want in cc in omega arith
 
 -- what a word says of its bytes
 writes : (v : Word) (bs : List ℕ) (at n : ℕ) → IsWord v bs at → value_of v ≡ Some n → Writes bs n
@@ -70,7 +70,7 @@ numbers_joined first second n m x y = ap (λ l. l ++ (32 ∷ second)) x.1 ∙ ap
 -- bytes with no space in them
 module _ (bs : List ℕ) (free : Without 32 bs) where
   pub one_plain : (b : ℕ) → wanted b ≡ Some 3 → FirstNo (line_questions (b ∷ 32 ∷ bs)) (Script WordCount)
-  one_plain b want = count_no b bs 3 _ want (plain b bs want ∙ ap (λ ws. (b ∷ []) ∷ ws) (words_one bs free)) (λ e. omega arith)
+  one_plain b want = count_no b bs 3 _ want (plain b bs 3 want (omega arith) ∙ ap (λ ws. (b ∷ []) ∷ ws) (words_one bs free)) (λ e. omega arith)
 
   pub one_write : FirstNo (line_questions (119 ∷ 32 ∷ bs)) (Script WordCount)
   one_write = count_no 119 bs 4 _ refl (ap (λ ws. (119 ∷ []) ∷ ws) (first_one 2 bs free)) (λ e. omega arith)
@@ -78,6 +78,27 @@ module _ (bs : List ℕ) (free : Without 32 bs) where
 -- bytes with no space behind a first one
 pub no_space : (bs : List ℕ) (at : ℕ) (front : Part) (back : Option Part) → Cut 32 bs at front back → back ≡ None → Without 32 bs
 no_space bs at front back cut none = let whole = (subst (Cut 32 bs at front) none cut).0 in subst (Without 32) (sym whole.1) whole.0
+
+-- one word, and more where there is a space behind it
+module _ (bs : List ℕ) (at : ℕ) (front : Part) (more : Option Part) (cut : Cut 32 bs at front more) (b : ℕ) (want : wanted b ≡ Some 2) where
+  pub word_too_many : (back : Part) → more ≡ Some back → FirstNo (line_questions (b ∷ 32 ∷ bs)) (Script WordCount)
+  word_too_many back some =
+      count_no b bs 2 _ want (plain b bs 2 want (omega arith)) (λ e. omega (arith, ap length (cut_more bs at front back (subst (Cut 32 bs at front) some cut)), words_some back.bytes.now))
+
+  module _ (w : Word) (none : more ≡ None) (is : IsWord w front.bytes.now front.at) where
+    only : Cut 32 bs at front None
+    only = subst (Cut 32 bs at front) none cut
+
+    has_one : words_of (b ∷ 32 ∷ bs) ≡ (b ∷ []) ∷ front.bytes.now ∷ []
+    has_one = plain b bs 2 want (omega arith) ∙ ap (λ ws. (b ∷ []) ∷ ws) (cut_whole bs at front only)
+
+    pub number_no : value_of w ≡ None → FirstNo (line_questions (b ∷ 32 ∷ bs)) (Script Digits)
+    number_no text = digits_no b bs 2 _ want has_one refl (λ each. no_number w front.bytes.now front.at is text each.0)
+
+    pub number_yes : (n : ℕ) → value_of w ≡ Some n → AllYes (line_questions (b ∷ 32 ∷ bs)) × (b ∷ 32 ∷ bs ≡ b ∷ 32 ∷ decimal n)
+    number_yes n number =
+        let x = writes w front.bytes.now front.at n is number in
+        (all_yes b bs 2 _ want has_one refl ((n, x), tt) tt, ap (λ l. b ∷ 32 ∷ l) (only.0.1 ∙ x.1))
 
 -- two words and no more
 module _ (bs : List ℕ) (at : ℕ) (v w : Word) (more : Option Part) (cut : TwoWords bs at v w more) (no_more : more ≡ None) where
@@ -109,17 +130,17 @@ module _ (bs : List ℕ) (at : ℕ) (v w : Word) (more : Option Part) (cut : Two
   pub numbers_read : (r : Result (ℕ × ℕ) ScriptCause)
       → results.MatchResult r (λ p. (value_of v ≡ Some p.0) × (value_of w ≡ Some p.1)) (λ c. (c ≡ Digits) × ((value_of v ≡ None) ⊎ (value_of w ≡ None)))
       → (b : ℕ) → wanted b ≡ Some 3
-      → results.MatchResult r (λ p. AllYes (line_questions (b ∷ 32 ∷ bs)) × (bs ≡ two_numbers p.0 p.1)) (λ c. FirstNo (line_questions (b ∷ 32 ∷ bs)) (Script c))
+      → ReadsAs (λ p. b ∷ 32 ∷ two_numbers p.0 p.1) (b ∷ 32 ∷ bs) r
   numbers_read r told b want = MatchResult-weaker r told both neither
     where
       line : words_of (b ∷ 32 ∷ bs) ≡ (b ∷ []) ∷ first ∷ second ∷ []
-      line = plain b bs want ∙ ap (λ ws. (b ∷ []) ∷ ws) are_two
+      line = plain b bs 3 want (omega arith) ∙ ap (λ ws. (b ∷ []) ∷ ws) are_two
 
-      both : (p : ℕ × ℕ) → (value_of v ≡ Some p.0) × (value_of w ≡ Some p.1) → AllYes (line_questions (b ∷ 32 ∷ bs)) × (bs ≡ two_numbers p.0 p.1)
+      both : (p : ℕ × ℕ) → (value_of v ≡ Some p.0) × (value_of w ≡ Some p.1) → AllYes (line_questions (b ∷ 32 ∷ bs)) × (b ∷ 32 ∷ bs ≡ b ∷ 32 ∷ two_numbers p.0 p.1)
       both (n, m) (one, other) =
           let x = writes v first two.first.at n two.is_first one in
           let y = writes w second two.second.at m two.is_second other in
-          (all_yes b bs 3 _ want line refl ((n, x), ((m, y), tt)) tt, joined ∙ numbers_joined first second n m x y)
+          (all_yes b bs 3 _ want line refl ((n, x), ((m, y), tt)) tt, ap (λ l. b ∷ 32 ∷ l) (joined ∙ numbers_joined first second n m x y))
 
       neither : (c : ScriptCause) → (c ≡ Digits) × ((value_of v ≡ None) ⊎ (value_of w ≡ None)) → FirstNo (line_questions (b ∷ 32 ∷ bs)) (Script c)
       neither c (is, none) = subst (λ x. FirstNo (line_questions (b ∷ 32 ∷ bs)) (Script x)) (sym is) (digits_no b bs 3 _ want line refl (λ each. not_both v w first second two.first.at two.second.at two.is_first two.is_second none each.0 each.1.0))
@@ -147,7 +168,7 @@ module _ (bs : List ℕ) (at : ℕ) (v w : Word) (more : Option Part) (cut : Two
       ∙ ap (λ ws. (119 ∷ []) ∷ one ∷ ws) (ap (first_words 1) whole.cut_second.0.1 ∙ first_more 1 other rest refl whole.cut_second.0.0 ∙ ap (λ ws. other ∷ ws) (first_all rest))
 
   pub too_many : (b : ℕ) → wanted b ≡ Some 3 → FirstNo (line_questions (b ∷ 32 ∷ bs)) (Script WordCount)
-  too_many b want = count_no b bs 3 _ want (plain b bs want) (λ e. omega (arith, ap length three, words_some rest))
+  too_many b want = count_no b bs 3 _ want (plain b bs 3 want (omega arith)) (λ e. omega (arith, ap length three, words_some rest))
 
   pub write_no_numbers : (value_of v ≡ None) ⊎ (value_of w ≡ None) → FirstNo (line_questions (119 ∷ 32 ∷ bs)) (Script Digits)
   write_no_numbers none = digits_no 119 bs 4 _ refl line refl (λ each. not_both v w one other whole.first.at whole.second.at whole.is_first whole.is_second none each.0 each.1.0)
@@ -187,15 +208,15 @@ handed_on P bs r c w by is refused =
     let p = err_from_is_err_and r by in
     subst (λ x. results.MatchResult x P (λ y. FirstNo (line_questions bs) (Script y))) (sym (p.1 ∙ ap Err (p.2 ∙ is))) refused
 
--- the two numbers of a line of the letter b, made a call
-pub numbers_call : (b : ℕ) (bs : List ℕ) (r : Result (ℕ × ℕ) ScriptCause) (s : Result Call ScriptCause) (P : ℕ × ℕ → Call → Type 0)
-    → results.MatchResult r (λ p. AllYes (line_questions (b ∷ 32 ∷ bs)) × (bs ≡ two_numbers p.0 p.1)) (λ c. FirstNo (line_questions (b ∷ 32 ∷ bs)) (Script c))
-    → results.MatchResult r (λ p. results.IsOkAnd s (P p)) (λ e. s ≡ Err e)
-    → ((p : ℕ × ℕ) (c : Call) → P p c → call_text c ≡ b ∷ 32 ∷ two_numbers p.0 p.1)
-    → ReadsCall (b ∷ 32 ∷ bs) s
-numbers_call b bs (Ok p) (Ok c) P (all, is) made text = (all, ap (λ l. b ∷ 32 ∷ l) is ∙ sym (text p c made))
-numbers_call b bs (Ok p) (Err e) P told made text = absurd made
-numbers_call b bs (Err e) s P told made text = subst (ReadsCall (b ∷ 32 ∷ bs)) (sym made) told
+-- what a line writes, made a call
+pub made_call : {X : Type 0} (text : X → List ℕ) (bs : List ℕ) (r : Result X ScriptCause) (s : Result Call ScriptCause) (P : X → Call → Type 0)
+    → ReadsAs text bs r
+    → results.MatchResult r (λ x. results.IsOkAnd s (P x)) (λ e. s ≡ Err e)
+    → ((x : X) (c : Call) → P x c → call_text c ≡ text x)
+    → ReadsCall bs s
+made_call text bs (Ok x) (Ok c) P (all, is) made same = (all, is ∙ sym (same x c made))
+made_call text bs (Ok x) (Err e) P told made same = absurd made
+made_call text bs (Err e) s P told made same = subst (ReadsCall bs) (sym made) told
 
 -- a slice by its first two bytes
 opens : (xs : List ℕ) (a b : ℕ) → 2 ≤ length xs → get_or xs 0 0 ≡ a → get_or xs 1 0 ≡ b → xs ≡ a ∷ b ∷ take (length xs - 2) (drop 2 xs)

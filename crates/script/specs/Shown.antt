@@ -7,7 +7,7 @@ use Rattle.std.specs.Prelude.{◌≡◌, ℕ, ◌+◌, ◌≤◌, List, [], ◌�
 use Rattle.faults.specs.Numbers.{fault_number, fault_letter}
 use Rattle.faults.specs.declared.Fault.{Fault}
 use Rattle.model.specs.declared.Answer.{Answer}
-use Rattle.model.specs.declared.Answer.TheVariants.{Done, Bytes}
+use Rattle.model.specs.declared.Answer.TheVariants.{Done, Bytes, Count}
 use Rattle.model.specs.declared.Changed.{Changed}
 use Rattle.script.specs.Parts.{until}
 
@@ -43,10 +43,15 @@ abbrev pub shown_bytes : Option (List ℕ) → List ℕ
 shown_bytes (Some bs) = codes "text " ++ until 0 bs ++ newline
 shown_bytes None = codes "hole" ++ newline
 
--- a change or a read
+-- = COUNT
+abbrev pub shown_count : ℕ → List ℕ
+shown_count k = codes "= " ++ decimal k ++ newline
+
+-- a change, a read or a figure
 abbrev pub shown_granted : Answer → List ℕ
 shown_granted (Done c) = shown_change c
 shown_granted (Bytes bs) = shown_bytes bs
+shown_granted (Count k) = shown_count k
 
 abbrev pub shown : Result Answer Fault → List ℕ
 shown (Ok a) = shown_granted a

@@ -1,7 +1,7 @@
 // The lines that answers print.
 ghost use Rattle.std.specs.Prelude.{◌≡◌, ◌+◌, ◌≤◌, length, Some, decimal};
 ghost use Rattle.script.specs.Parts.{until};
-ghost use Rattle.script.specs.Shown.{Put, Buffer, shown, shown_bytes, shown_change, shown_fault};
+ghost use Rattle.script.specs.Shown.{Put, Buffer, shown, shown_bytes, shown_change, shown_count, shown_fault};
 
 use crate::parts::Part;
 use faults::Fault;
@@ -18,6 +18,7 @@ pub fn print(answer: Result<Answer, Fault>, out: &mut [u8]) -> usize
         Ok(Answer::Done(changed)) => line.push_change(changed),
         Ok(Answer::Bytes(Some(block))) => line.push_text(&block),
         Ok(Answer::Bytes(None)) => line.push(b"hole\n"),
+        Ok(Answer::Count(count)) => line.push_count(count),
         Err(fault) => line.push_fault(fault),
     }
     line.end
@@ -85,6 +86,17 @@ impl Line<'_> {
     {
         self.push(b"text ");
         self.push(before_zero(block));
+        self.push(b"\n");
+    }
+
+    // Adds `= COUNT`.
+    fn push_count(&mut self, count: u32)
+        requires { self.old.end + 80 ≤ length self.old.out.now }
+        ensures same_reference { self.new.out.ghost_name ≡ self.old.out.ghost_name }
+        ensures wrote { Put self.old.out.now self.new.out.now self.old.end self.new.end (shown_count count) }
+    {
+        self.push(b"= ");
+        self.push_number(count);
         self.push(b"\n");
     }
 

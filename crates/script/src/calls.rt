@@ -1,9 +1,7 @@
 // The calls that lines write.
-ghost use Rattle.std.specs.Prelude.{◌≡◌, ℕ, ◌⊎◌, ◌∷◌, Some, None, MatchResult};
-ghost use Rattle.faults.specs.declared.Layer.TheVariants.{Script};
+ghost use Rattle.std.specs.Prelude.{◌≡◌, ℕ, ◌⊎◌, ◌∷◌, Some, None, decimal, MatchResult};
 ghost use Rattle.faults.specs.declared.ScriptCause.TheVariants.{Digits, Text};
-ghost use Rattle.model.specs.Questions.{AllYes, FirstNo};
-ghost use Rattle.script.specs.Lines.{ReadsCall, line_questions, wanted, two_numbers};
+ghost use Rattle.script.specs.Lines.{ReadsAs, ReadsCall, wanted, two_numbers};
 ghost use Rattle.script.specs.Words.{IsText, value_of};
 
 use crate::parts::Part;
@@ -27,13 +25,30 @@ pub fn read_call<'s>(line: Part<'s>) -> Result<Call<'s>, ScriptCause>
         'w' => read_write(rest),
         'x' => read_numbers(rest).map(|(number, position)| Call::Discard { number, position }),
         'p' => read_numbers(rest).map(|(number, position)| Call::Read { number, position }),
+        's' => read_numbers(rest).map(|(number, snapshot)| Call::Snapshot { number, snapshot }),
+        'k' => read_numbers(rest).map(|(snapshot, number)| Call::Clone { snapshot, number }),
+        'd' => read_number(rest).map(|number| Call::Destroy { number }),
+        'u' => read_number(rest).map(|number| Call::Unique { number }),
+        'a' => read_number(rest).map(|number| Call::Used { number }),
         _ => Err(ScriptCause::Letter),
+    }
+}
+
+// The rest of a line of any letter that wants just one number.
+fn read_number(rest: Part<'_>) -> Result<u32, ScriptCause>
+    ensures cases { (b : ℕ) → wanted b ≡ Some 2 → ReadsAs (λ n. b ∷ 32 ∷ decimal n) (b ∷ 32 ∷ rest.entry.bytes.now) result }
+{
+    let (word, more) = rest.cut(b' ');
+    match (more, Word::from(word)) {
+        (Some(_), _) => Err(ScriptCause::WordCount),
+        (None, Word::Number { value, .. }) => Ok(value),
+        (None, Word::Text(_)) => Err(ScriptCause::Digits),
     }
 }
 
 // The rest of a line of any letter that wants just two numbers.
 fn read_numbers(rest: Part<'_>) -> Result<(u32, u32), ScriptCause>
-    ensures cases { (b : ℕ) → wanted b ≡ Some 3 → MatchResult result (λ p. AllYes (line_questions (b ∷ 32 ∷ rest.entry.bytes.now)) × (rest.entry.bytes.now ≡ two_numbers p.0 p.1)) (λ c. FirstNo (line_questions (b ∷ 32 ∷ rest.entry.bytes.now)) (Script c)) }
+    ensures cases { (b : ℕ) → wanted b ≡ Some 3 → ReadsAs (λ p. b ∷ 32 ∷ two_numbers p.0 p.1) (b ∷ 32 ∷ rest.entry.bytes.now) result }
 {
     let (first, second, more) = two_words(rest).ok_or(ScriptCause::WordCount)?;
     match more {

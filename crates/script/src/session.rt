@@ -95,6 +95,11 @@ fn perform(pool: &mut Pool<'_, AnyAllocator<'_>>, call: Call<'_>) -> Result<Answ
         Call::Read { number, position } => pool
             .read(number, position)
             .map(|found| Answer::Bytes(found.copied())),
+        Call::Snapshot { number, snapshot } => pool.snapshot(number, snapshot).map(Answer::Done),
+        Call::Clone { snapshot, number } => pool.clone_snapshot(snapshot, number).map(Answer::Done),
+        Call::Destroy { number } => pool.destroy(number).map(Answer::Done),
+        Call::Unique { number } => pool.unique(number).map(Answer::Count),
+        Call::Used { number } => pool.used(number).map(Answer::Count),
     }
 }
 

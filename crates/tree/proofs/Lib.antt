@@ -6,3 +6,4 @@ pub mod Blocks
 pub mod Walks
 pub mod Surveys
 pub mod Links
+pub mod Subtrees

@@ -1,4 +1,5 @@
--- What the calls on a new path answer.
+-- What the calls on a pointer and on a new path answer.
+--     Children mem q qs    qs are the pointers that q leads to
 --     old_root w           the root of a surveyed path
 --     taken f d            the block of a new path at depth d
 --     Tracks mem w         w has the pointers of its path, from the root down
@@ -8,15 +9,19 @@
 --     Links                the indirect blocks of the path are written
 --     Rewrites             the path is replaced, and its new root is the answer
 --     Spares mem mem' f    the blocks that are not of the new path are as they were
-use Rattle.std.specs.Prelude.{◌≡◌, ℕ, Contains, ◌+◌, ◌≤◌, min, ◌⊎◌, List, length, None, Option, Result, MatchResult, slice_index, slice_index_or}
+use Rattle.std.specs.Prelude.{◌≡◌, ℕ, Contains, ◌+◌, ◌<◌, ◌≤◌, min, ◌⊎◌, List, length, Some, None, Option, Result, MatchResult, slice_index, slice_index_or}
 use Rattle.faults.specs.declared.PoolCause.{PoolCause}
 use Rattle.faults.specs.declared.PoolCause.TheVariants.{NoPool}
 use Rattle.records.specs.declared.rows.Pointer.{Pointer}
 use Rattle.tree.specs.declared.paths.FreshPath.{FreshPath}
 use Rattle.tree.specs.declared.paths.Route.{Route}
-use Rattle.tree.specs.Trees.{block, block_size, on_path, Lost}
+use Rattle.tree.specs.Trees.{block, block_size, child, fan, on_path, Lost}
 use Rattle.tree.specs.Paths.{filled, new_at, Fresh, Short, Rewritten}
 use Rattle.tree.specs.Steps.{Linked}
+
+pub record Children (mem : List ℕ) (q : Pointer) (qs : List (Option Pointer)) : Type 0 where
+  pub long : length qs ≡ fan
+  pub here : (k : ℕ) → k < fan → slice_index_or qs k None ≡ child mem (Some q) k
 
 abbrev pub old_root : Route → Option Pointer
 old_root w = slice_index_or w.old 0 None

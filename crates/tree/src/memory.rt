@@ -3,6 +3,7 @@
 ghost use Rattle.std.specs.Prelude.{◌≡◌, ◌+◌, ◌*◌, ◌<◌, ◌≤◌, ◌⊎◌, length, MatchResult, OnErr};
 ghost use Rattle.std.specs.List.{flat_map};
 ghost use Rattle.faults.specs.declared.PoolCause.TheVariants.{NoPool};
+ghost use Rattle.tree.specs.Calls.{Children};
 ghost use Rattle.tree.specs.Paths.{filled, led, pointer_bytes, with_pointer};
 ghost use Rattle.tree.specs.Steps.{LeadsOut, Put};
 ghost use Rattle.tree.specs.Trees.{block, block_size, fan, Outside, pointer_in, word_at};
@@ -83,6 +84,22 @@ pub fn read_block(memory: &[u8], number: u32) -> Result<&[u8; BLOCK_BYTES], Pool
 {
     let start = block_start(memory, number)?;
     Ok(memory[start..].first_chunk().unwrap())
+}
+
+// The pointers of the block that a pointer leads to.
+pub fn children(
+    memory: &[u8],
+    pointer: Pointer,
+) -> Result<[Option<Pointer>; FAN as usize], PoolCause>
+    ensures below { MatchResult result (λ below. Children memory.now pointer below) (λ c. (c ≡ NoPool) × Outside memory.now pointer.block) }
+{
+    let bytes = read_block(memory, pointer.block)?;
+    let mut below = [None; FAN as usize];
+    // By index: of an array that an iterator wrote a proof knows the length alone.
+    for place in 0..FAN as usize {
+        below[place] = decode(bytes, place);
+    }
+    Ok(below)
 }
 
 // Stores the bytes of a block.

@@ -51,8 +51,8 @@ returns-in_err-given g c = record { replaces = λ i way. absurd (never i way); r
         (c.leave_path.ensures.left (c.plant.ensures.sound i.0) ordered) in
         MatchResult-at_err _ _ _ c.in_err-given.was left
 
-pub returns-in_err-reroot : goal.returns-in_err-reroot
-returns-in_err-reroot g c = record { replaces = λ i way. absurd (never i way); refused = λ i way. absurd (never i way); sound = λ ok. subst g.A.BlockAllocator.sound (sym c.in_err-reroot.ensures.allocator) (c.leave_path.ensures.sound (c.plant.ensures.sound ok)) }
+pub returns-in_err-put_row : goal.returns-in_err-put_row
+returns-in_err-put_row g c = record { replaces = λ i way. absurd (never i way); refused = λ i way. absurd (never i way); sound = λ ok. subst g.A.BlockAllocator.sound (sym c.in_err-put_row.ensures.allocator) (c.leave_path.ensures.sound (c.plant.ensures.sound ok)) }
   where
     never : Intact g.A.BlockAllocator.sound g.A.BlockAllocator.meaning c.args.self.now
         → Routed (state_of g.A.BlockAllocator.meaning c.args.self.now) c.args.row c.args.route.now.path.position c.args.route.now c.args.count c.args.text.now → ⊥
@@ -77,7 +77,7 @@ returns-in_err-reroot g c = record { replaces = λ i way. absurd (never i way); 
         let there : is_some (in_rows c.plant.new.self.rows c.rerooted.result.number) ≡ true =
         ap (λ (x : Table Row). is_some (in_rows x c.rerooted.result.number)) c.plant.ensures.rows ∙ (ap (λ (x : Row). is_some (in_rows c.args.self.now.rows x.number)) row ∙ ap is_some way.found) in
         let up : RowsOrdered c.plant.new.self.rows = subst (λ (x : Table Row). RowsOrdered x) (sym c.plant.ensures.rows) i.1.shape.ordered in
-        let placed = (c.in_err-reroot.ensures.rows up there).0 in
+        let placed = (c.in_err-put_row.ensures.rows up there).0 in
         let z : ◌≡◌ {A = ℕ} 0 1 = cc in
         omega arith
 
@@ -104,16 +104,16 @@ returns g c = record {
       let there : is_some (in_rows c.plant.new.self.rows c.rerooted.result.number) ≡ true =
       ap (λ (x : Table Row). is_some (in_rows x c.rerooted.result.number)) c.plant.ensures.rows ∙ (ap (λ (x : Row). is_some (in_rows c.args.self.now.rows x.number)) row ∙ ap is_some way.found) in
       let up : RowsOrdered c.plant.new.self.rows = subst (λ (x : Table Row). RowsOrdered x) (sym c.plant.ensures.rows) i.1.shape.ordered in
-      let end = c.in_ok-reroot.ensures in
+      let end = c.in_ok-put_row.ensures in
       let whole =
       exchange s c.args.row c.args.route.now.path.position c.args.count c.args.route.now c.args.text.now (g.A.BlockAllocator.meaning c.args.self.now.allocator) (g.A.BlockAllocator.meaning c.plant.new.self.allocator) (g.A.BlockAllocator.meaning c.leave_path.new.allocator) c.plant.new.self.memory.now c.in_ok-root.root (records c.leave_path.new.dead) c.in_ok-given.given i.1 refl refl way new given in
       let t : State = after s c.args.row c.plant.new.self.memory.now c.in_ok-root.root (records c.leave_path.new.dead) (g.A.BlockAllocator.meaning c.leave_path.new.allocator) c.args.count c.in_ok-given.given in
-      let is : state_of g.A.BlockAllocator.meaning c.reroot.new.self ≡ t =
-      same_state t (state_of g.A.BlockAllocator.meaning c.reroot.new.self) (ap (λ (x : MutBor (List ℕ)). x.now) end.memory)
+      let is : state_of g.A.BlockAllocator.meaning c.put_row.new.self ≡ t =
+      same_state t (state_of g.A.BlockAllocator.meaning c.put_row.new.self) (ap (λ (x : MutBor (List ℕ)). x.now) end.memory)
       ((end.rows up there).1 ∙ (ap (λ (x : Table Row). replaced number_of ltb (records x) c.rerooted.result) c.plant.ensures.rows ∙ ap (replaced number_of ltb s.rows) row))
       (end.room ∙ ap room c.plant.ensures.rows) (ap records end.dead) (ap room end.dead ∙ (c.leave_path.ensures.room ∙ ap room c.plant.ensures.dead)) (end.group ∙ c.plant.ensures.group)
       (ap (λ x. (g.A.BlockAllocator.meaning x).size) end.allocator) (ap (λ x. (g.A.BlockAllocator.meaning x).owns) end.allocator) in
       (free, fits, subst (λ (x : State). record { taken = c.args.count; given = c.in_ok-given.given } ≡ changed s x) (sym is) whole.0, subst (λ (x : State). Replaced s x c.args.row.number c.args.row c.args.route.now.path.position c.args.count (filled c.args.text.now)) (sym is) whole.1);
   refused = λ i way. tt;
-  sound = λ ok. subst g.A.BlockAllocator.sound (sym c.in_ok-reroot.ensures.allocator) (c.leave_path.ensures.sound (c.plant.ensures.sound ok));
+  sound = λ ok. subst g.A.BlockAllocator.sound (sym c.in_ok-put_row.ensures.allocator) (c.leave_path.ensures.sound (c.plant.ensures.sound ok));
 }
