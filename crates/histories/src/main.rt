@@ -20,13 +20,6 @@ mod turns;
 
 use turns::{HISTORIES, History, Turn};
 
-// What stands in a place that holds no dead record.
-const UNUSED: DeadRecord = DeadRecord {
-    dataset: 0,
-    birth: 0,
-    block: 0,
-};
-
 // What a bitmap and a range map of up to eight blocks need.
 const BITMAP_BYTES: usize = 1;
 
@@ -103,7 +96,7 @@ fn print_history<A: BlockAllocator + Drop>(
 ) -> io::Result<()> {
     let mut memory = vec![in rt.alloc(); 0u8; history.bytes]?;
     let mut rows = [Row::UNUSED; 1];
-    let mut dead = [UNUSED; 1];
+    let mut dead = [DeadRecord::UNUSED; 1];
     let bytes = memory.len();
     let size = allocator.size();
     let owned = size.saturating_sub(allocator.free_count());

@@ -1,6 +1,8 @@
 -- The row of a new head joins the rows of a sound pool: its places are those of its previous, and the pool stays sound.
 --     at_hole     below a hole there are holes
+--     some_place  each place was there before, in some dataset
 --     joined      a sound pool with the row of a new head is sound
+--     head_joins  the row of a new head may join the rows
 --     created     create keeps a sound pool sound
 use Rattle.std.proofs.Common.{◌≡◌, ℕ, zero, suc, ◌/◌, ◌%◌, ◌<◌, ◌≤◌, List, Some, None, Option, sym, refl, ap, ◌∙◌, subst, arith}
 use Rattle.records.specs.declared.rows.Pointer.{Pointer}
@@ -66,7 +68,7 @@ module _ (s : State) (new : Row) (joins : Joins s new) (sound : Sound s) where
       record { row = new; found = row_new s new joins; holds = same_tree s.memory y new d i q height root holds }
 
   -- each place was there before, in some dataset
-  some_place : (m d i : ℕ) (q : Pointer) → Has t m d i q → (j : ℕ) × Has s j d i q
+  pub some_place : (m d i : ℕ) (q : Pointer) → Has t m d i q → (j : ℕ) × Has s j d i q
   some_place m d i q has = each now before m has.row has.found has
     where
       now : Has t n d i q → (j : ℕ) × Has s j d i q
@@ -220,19 +222,20 @@ module _ (s : State) (new : Row) (joins : Joins s new) (sound : Sound s) where
     born = born;
   }
 
+-- the row of a new head may join the rows
+pub head_joins : (s : State) (n h : ℕ) → AllYes (questions s (Create n h)) → Joins s (head_row n h)
+head_joins s n h (number, (unused, (height, (room, _)))) = record {
+  unused = unused;
+  number = number;
+  height = height;
+  room = room;
+  owner = refl;
+  kind = refl;
+  born = refl;
+  tree = λ j is. absurd (some_none _ j is refl);
+  hole = λ is. refl;
+}
+
 -- create keeps a sound pool sound
 pub created : (s : State) (n h : ℕ) → Sound s → AllYes (questions s (Create n h)) → Sound (with_row s (head_row n h))
-created s n h sound (number, (unused, (height, (room, _)))) = joined s (head_row n h) joins sound
-  where
-    joins : Joins s (head_row n h)
-    joins = record {
-      unused = unused;
-      number = number;
-      height = height;
-      room = room;
-      owner = refl;
-      kind = refl;
-      born = refl;
-      tree = λ j is. absurd (some_none _ j is refl);
-      hole = λ is. refl;
-    }
+created s n h sound asked = joined s (head_row n h) (head_joins s n h asked) sound

@@ -14,7 +14,7 @@ use Rattle.model.proofs.Readings.{reads_beside}
 use Rattle.model.proofs.Rows.{some_none, same_row, row_number, added_here}
 
 -- the row of a clone may join the rows
-joins : (s : State) (m n : ℕ) (r : Row) → Sound s → Dataset s m r → AllYes (questions s (Clone m n)) → Joins s (clone_row n r)
+pub joins : (s : State) (m n : ℕ) (r : Row) → Sound s → Dataset s m r → AllYes (questions s (Clone m n)) → Joins s (clone_row n r)
 joins s m n r sound here (_, (number, (_, ((u, (x, found, snapshot)), (unused, (room, _)))))) = record {
   unused = unused;
   number = number;

@@ -60,7 +60,7 @@ module _ (s t : State) (n : ℕ) (r : Row) (o : Option ℕ) (sound : Sound s) (h
   place_kept : (m d i : ℕ) (q : Pointer) → Has s m d i q → (m ≡ n → ⊥) → Has u m d i q
   place_kept m d i q has other = record { row = has.row; found = kept m has.row has.found other; holds = has.holds }
 
-  place_old : (m d i : ℕ) (q : Pointer) → Has u m d i q → Has s m d i q
+  pub place_old : (m d i : ℕ) (q : Pointer) → Has u m d i q → Has s m d i q
   place_old m d i q has = record { row = has.row; found = old m has.row has.found; holds = has.holds }
 
   reach_kept : (m b : ℕ) → Reaches s m b → (m ≡ n → ⊥) → Reaches u m b
@@ -86,6 +86,12 @@ module _ (s t : State) (n : ℕ) (r : Row) (o : Option ℕ) (sound : Sound s) (h
   young_old m b (x, q, there, (d, i, has), young, e) =
       (x, q, old m x there, (d, i, place_old m d i q has), omega (arith, base_same m x (old m x there)), e)
 
+  -- there are no more dead records than before
+  pub fewer : length t.dead ≤ length s.dead
+  fewer =
+      no_more dead_key dead_below dead_one dead_chain (λ x. x) t.dead s.dead gone.dead.ordered sound.shape.dead_ordered
+      (λ x stands. (x, ((gone.dead.members x.dataset (record { birth = x.birth; block = x.block })).0 stands).1, refl))
+
   shape : Shape u
   shape = record {
     size = sound.shape.size;
@@ -103,11 +109,6 @@ module _ (s t : State) (n : ℕ) (r : Row) (o : Option ℕ) (sound : Sound s) (h
     below = λ b own. below b ((gone.owned b).0 own);
   }
     where
-      fewer : length t.dead ≤ length s.dead
-      fewer =
-          no_more dead_key dead_below dead_one dead_chain (λ x. x) t.dead s.dead gone.dead.ordered sound.shape.dead_ordered
-          (λ x stands. (x, ((gone.dead.members x.dataset (record { birth = x.birth; block = x.block })).0 stands).1, refl))
-
       below : (b : ℕ) → ⊥ ⊎ ((s.owns b ≡ true) × (Young s n b → ⊥)) → b < s.size
       below b (inl never) = absurd never
       below b (inr (own, _)) = sound.shape.below b own

@@ -10,7 +10,7 @@ use Rattle.model.specs.Paths.{Hole, sinking}
 use Rattle.model.specs.Questions.{questions, AllYes, DiscardSinks}
 use Rattle.model.specs.Soundness.{Sound}
 use Rattle.model.specs.Steps.{Replaced, Destroyed}
-use Rattle.model.specs.declared.Call.TheVariants.{Create, Write, Discard, Read, Snapshot, Clone, Destroy, Unique, Used}
+use Rattle.model.specs.declared.Call.TheVariants.{Create, Write, Discard, Read, Snapshot, Clone, Destroy, Unique, Used, Bucket}
 use Rattle.model.proofs.Adds.{created}
 use Rattle.model.proofs.Births.{identity_moved, birth_law_moved, one_young_moved}
 use Rattle.model.proofs.Borns.{born_moved}
@@ -75,3 +75,4 @@ steps_keep_sound s (Clone m n) (Ok a) t sound (asked, (_, (r, here, e))) = subst
 steps_keep_sound s (Destroy n) (Ok a) t sound (asked, (_, (r, here, gone))) = destroyed s t n r r.kind refl sound here asked gone
 steps_keep_sound s (Unique n) (Ok a) t sound (_, (_, e)) = subst Sound (sym e) sound
 steps_keep_sound s (Used n) (Ok a) t sound (_, (_, e)) = subst Sound (sym e) sound
+steps_keep_sound s (Bucket n k) (Ok a) t sound (_, (_, e)) = subst Sound (sym e) sound

@@ -5,8 +5,10 @@
 --     reads_moved               every other position reads as before
 --     write_moved               a granted write moves the places of its head
 --     discard_moved             and so does a granted discard of data
-use Rattle.std.proofs.Common.{◌≡◌, ℕ, suc, ◌-◌, ◌^◌, ◌<◌, ◌≤◌, List, [], Some, None, Option, sym, refl, ap, ◌∙◌, subst, inl, inr, arith, Bor}
+--     stay_most                 the levels that stay in a discard are one number
+use Rattle.std.proofs.Common.{◌≡◌, ℕ, suc, ◌-◌, ◌^◌, ◌<◌, ◌≤◌, ◌⊎◌, List, [], Some, None, Option, sym, refl, ap, ◌∙◌, subst, inl, inr, arith, Bor}
 use Rattle.std.specs.Option.{option_map}
+use Rattle.std.proofs.lemmas.Bool.{cases_lt}
 use Rattle.records.specs.declared.rows.Kind.TheVariants.{Head}
 use Rattle.records.specs.declared.rows.Pointer.{Pointer}
 use Rattle.records.specs.declared.rows.Row.{Row}
@@ -116,6 +118,16 @@ pub discard_moved : (s t : State) (n p k : ℕ) (r : Row) → Sound s → Datase
 discard_moved s t n p k r sound here (_, (_, ((o, head), (position, _)))) stay rep =
     moved s t n r p k [] sound here o (head_kind s n r o here head) (position_wide s n p r here position) (omega (arith, stay.within))
     stay.only (λ low high. stay.other low) rep
+
+-- no more levels stay in one way than in another
+pub stay_most : (s : State) (r : Row) (p j k : ℕ) → Stay s.memory r.root r.height p j → Stay s.memory r.root r.height p k → j ≤ k
+stay_most s r p j k one other = go (cases_lt k j)
+  where
+    go : (k < j) ⊎ (j ≤ k) → j ≤ k
+    go (inr most) = most
+    go (inl more) =
+        let beside = one.other (omega arith) in
+        absurd (some_none _ beside.pointer beside.here (other.only (j - 1) (omega arith) (omega (arith, one.within)) beside.which beside.small beside.other))
 
 -- a new head reads as holes
 pub reads_new : (s : State) (n h p : ℕ) → Unused s n → reads (with_row s (head_row n h)) n p ≡ None

@@ -1,6 +1,7 @@
 -- Look-ups in rows, with one row exchanged, one more or one less.
 use Rattle.std.proofs.Common.{◌≡◌, ℕ, true, false, ltb, ◌⊎◌, List, [], ◌∷◌, length, is_some, Some, None, Option, sym, refl, ap, ◌∙◌, subst, inl, inr, arith, rules, ◌≤◌}
 use Rattle.std.proofs.lemmas.Bool.{cases_Bool, cond-true, cond-false, cond_both, ltb-true, lt-ltb}
+use Rattle.std.specs.List.{AllByRecursion}
 use Rattle.ordered.specs.Order.{ExactlyOne, Holds}
 use Rattle.ordered.specs.Tables.{Ascending, same, index_of, record_of, with_record, without_key, replaced}
 use Rattle.ordered.proofs.Additions.{no_index_of}
@@ -115,3 +116,10 @@ order_removed = ascending_without number_of ltb one chain
 pub at_number : (xs : List Row) (P : ℕ → Row → Type 0) (n : ℕ) (y : Row) → row_of xs n ≡ Some y → P n y → (m : ℕ) (x : Row) → row_of xs m ≡ Some x → m ≡ n → P m x
 at_number xs P n y here holds m x there e =
     subst (λ j. P j x) (sym e) (subst (P n) (same_row xs n y x here (subst (λ j. row_of xs j ≡ Some x) e there)) holds)
+
+-- what is so of all rows is so of the one that is found
+pub of_all : (P : Row → Type 0) (xs : List Row) (n : ℕ) (r : Row) → AllByRecursion P xs → row_of xs n ≡ Some r → P r
+of_all P [] n r all found = absurd (some_none None r found refl)
+of_all P (x ∷ xs) n r all found =
+    cond_both (same ltb x.number n) (Some x) (row_of xs n) (λ (o : Option Row). o ≡ Some r → P r)
+    (λ _ is. (let e : x ≡ r = cc in subst P e all.0)) (λ _. of_all P xs n r all.1) found

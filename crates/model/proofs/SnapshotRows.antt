@@ -3,6 +3,7 @@
 --     with_snapshot    the state after
 --     after_cases      each dataset after is the snapshot, the head, or one that was there
 --     before_cases     each dataset of before is the head, or keeps its row
+--     no_more_dead     there are no more dead records than before
 --     shape, family    the two parts of soundness that speak of rows
 use Rattle.std.proofs.Common.{◌≡◌, ℕ, ◌+◌, ◌<◌, ◌≤◌, cond, eqb, ltb, ◌⊎◌, List, length, Some, None, Option, sym, refl, ap, ◌∙◌, subst, inl, inr, arith}
 use Rattle.std.proofs.lemmas.Bool.{cases_eq, cond-true, cond-false, eq-eqb, ne_eqb}
@@ -130,6 +131,18 @@ module _ (s : State) (n m : ℕ) (r : Row) (dead : List DeadRecord) (sound : Sou
       after_cases (λ k x. x.kind ≡ Head o → IsHead s k o) (λ is. absurd (not_both copy.kind o s.group is refl)) (λ is. (r, found, is))
       (λ k x old _ is. (x, old, is)) k x there is
 
+  -- there are no more dead records than before: each is one of before, for n or now for m
+  pub no_more_dead : DeadAfter t (HandedOver s n m) → length dead ≤ length s.dead
+  no_more_dead after = no_more dead_key dead_below dead_one dead_chain moved dead s.dead after.ordered sound.shape.dead_ordered
+      (λ x is. (let q : Pointer = record { block = x.block; birth = x.birth } in came x.dataset q ((after.members x.dataset q).0 is)))
+    where
+      moved : DeadRecord → DeadRecord
+      moved x = record { dataset = cond (eqb x.dataset n) m x.dataset; birth = x.birth; block = x.block }
+
+      came : (k : ℕ) (q : Pointer) → HandedOver s n m k q → (x : DeadRecord) × Finds dead_key dead_below s.dead x × (moved x ≡ dead_of k q)
+      came k q (inl (e, was)) = (dead_of n q, was, ap (λ (l : ℕ). dead_of l q) (cond-true (eqb n n) m n (eq-eqb n n refl) ∙ sym e))
+      came k q (inr (_, away, was)) = (dead_of k q, was, ap (λ (l : ℕ). dead_of l q) (cond-false (eqb k n) m k (ne_eqb k n away)))
+
   -- the shape of the pool, where its dead table is m's and the others'
   pub shape : DeadAfter t (HandedOver s n m) → Shape t
   shape after = record {
@@ -138,7 +151,7 @@ module _ (s : State) (n m : ℕ) (r : Row) (dead : List DeadRecord) (sound : Sou
     row_room = sound.shape.row_room;
     dead_room = sound.shape.dead_room;
     rows_fit = omega (arith, length_with number_of ltb exchanged copy, length_replaced s.rows live, asked.1.1.1.1.1.0);
-    dead_fit = omega (arith, fewer, sound.shape.dead_fit);
+    dead_fit = omega (arith, no_more_dead after, sound.shape.dead_fit);
     ordered =
         ascending_with number_of ltb one chain exchanged copy (no_index_of number_of ltb exchanged m still_unused) (order_replaced s.rows live sound.shape.ordered);
     dead_ordered = after.ordered;
@@ -154,18 +167,6 @@ module _ (s : State) (n m : ℕ) (r : Row) (dead : List DeadRecord) (sound : Sou
     where
       own : (u : ℕ) → OfSnapshot s.group ≡ OfSnapshot u → (1 ≤ u) × (u < s.group + 1)
       own u is = let e : s.group ≡ u = cc in (omega (arith, sound.shape.group), omega arith)
-
-      -- each dead record is one of before, for n or now for m
-      moved : DeadRecord → DeadRecord
-      moved x = record { dataset = cond (eqb x.dataset n) m x.dataset; birth = x.birth; block = x.block }
-
-      came : (k : ℕ) (q : Pointer) → HandedOver s n m k q → (x : DeadRecord) × Finds dead_key dead_below s.dead x × (moved x ≡ dead_of k q)
-      came k q (inl (e, was)) = (dead_of n q, was, ap (λ (l : ℕ). dead_of l q) (cond-true (eqb n n) m n (eq-eqb n n refl) ∙ sym e))
-      came k q (inr (_, away, was)) = (dead_of k q, was, ap (λ (l : ℕ). dead_of l q) (cond-false (eqb k n) m k (ne_eqb k n away)))
-
-      fewer : length dead ≤ length s.dead
-      fewer = no_more dead_key dead_below dead_one dead_chain moved dead s.dead after.ordered sound.shape.dead_ordered
-          (λ x is. (let q : Pointer = record { block = x.block; birth = x.birth } in came x.dataset q ((after.members x.dataset q).0 is)))
 
   -- the families
   pub family : Family t

@@ -72,7 +72,7 @@ module _ (s : State) (n m : ℕ) (r : Row) (dead : List DeadRecord) (sound : Sou
       record { now = row_kept s n m r dead sound found asked k x old away; was = old; like = places_kept k x old; previous = refl; base = base_kept k x old }
 
   -- every place was there
-  likes : (k : ℕ) (x : Row) → Dataset t k x → (j : ℕ) × Like s t k j
+  pub likes : (k : ℕ) (x : Row) → Dataset t k x → (j : ℕ) × Like s t k j
   likes = after_cases s n m r dead sound found asked (λ k _. (j : ℕ) × Like s t k j) (n, same_copy.like) (n, like_live) (λ k x old _. (k, places_kept k x old))
 
   -- births go to the stamp

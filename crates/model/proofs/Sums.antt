@@ -3,11 +3,12 @@
 --     one_count      a property has one count
 --     none, single   no number, and one
 --     both           one of two properties that no number has both of
+--     several        some numbers, no two the same
 --     sum_passing    the property of one of the records that pass a test
-use Rattle.std.proofs.Common.{◌≡◌, ℕ, suc, ◌+◌, ◌<◌, Bool, true, false, ◌||◌, eqb, ◌⊎◌, List, [], ◌∷◌, Some, None, Option, sym, refl, ap, ◌∙◌, subst, inl, inr, true≢false, arith}
+use Rattle.std.proofs.Common.{◌≡◌, ℕ, zero, suc, ◌+◌, ◌<◌, Bool, true, false, ◌||◌, eqb, ◌⊎◌, List, [], ◌∷◌, Some, None, Option, sym, refl, ap, ◌∙◌, subst, inl, inr, true≢false, arith}
 use Rattle.std.specs.Prelude.{◌↔◌, filter}
 use Rattle.std.specs.List.{sum_by}
-use Rattle.std.proofs.lemmas.Bool.{cases_Bool, both_ways, cond-true, cond-false, eqb-true, eq-eqb, or_cases, or_left, or_right}
+use Rattle.std.proofs.lemmas.Bool.{cases_eq, cases_Bool, both_ways, cond-true, cond-false, eqb-true, eq-eqb, or_cases, or_left, or_right}
 use Rattle.std.proofs.lemmas.List.Sums.{sum_by-cons}
 use Rattle.blocks.specs.Sets.{Joins, union}
 use Rattle.blocks.proofs.Counts.{count_same, count_more, count_empty, count_sum}
@@ -88,6 +89,29 @@ both P Q n j k apart x y = record {
         go : (y.test b ≡ true) ⊎ (y.test b ≡ false) → y.test b ≡ false
         go (inl also) = absurd (apart b ((x.tells b low).0 is) ((y.tells b low).0 also))
         go (inr not) = not
+
+-- k numbers of which no two are the same
+pub several : (number : ℕ → ℕ) (n k : ℕ) → ((d : ℕ) → d < k → number d < n) → ((d e : ℕ) → d < e → e < k → number d ≡ number e → ⊥)
+    → HowMany (λ b. (d : ℕ) × (d < k) × (number d ≡ b)) n k
+several number n zero low apart = none (λ b. (d : ℕ) × (d < 0) × (number d ≡ b)) n (λ b is. omega (arith, is.1))
+several number n (suc k) low apart =
+    let rest = several number n k (λ d less. low d (omega arith)) (λ d e less small. apart d e less (omega arith)) in
+    let sum : k + 1 ≡ suc k = omega arith in
+    subst (HowMany _ n) sum (alike _ _ n (k + 1) (λ b _. (there b, back b)) (both _ _ n k 1 alone rest (single (number k) n (low k (omega arith)))))
+  where
+    alone : (b : ℕ) → (d : ℕ) × (d < k) × (number d ≡ b) → number k ≡ b → ⊥
+    alone b (d, less, is) last = apart d k less (omega arith) (is ∙ sym last)
+
+    there : (b : ℕ) → ((d : ℕ) × (d < k) × (number d ≡ b)) ⊎ (number k ≡ b) → (d : ℕ) × (d < suc k) × (number d ≡ b)
+    there b (inl (d, less, is)) = (d, omega arith, is)
+    there b (inr is) = (k, omega arith, is)
+
+    back : (b : ℕ) → (d : ℕ) × (d < suc k) × (number d ≡ b) → ((d : ℕ) × (d < k) × (number d ≡ b)) ⊎ (number k ≡ b)
+    back b (d, less, is) = go (cases_eq d k)
+      where
+        go : (d ≡ k) ⊎ (d ≡ k → ⊥) → ((d : ℕ) × (d < k) × (number d ≡ b)) ⊎ (number k ≡ b)
+        go (inl last) = inr (ap number (sym last) ∙ is)
+        go (inr other) = inl (d, omega arith, is)
 
 -- Records in the order of their keys, where each key has a property of numbers, and no number has the properties of two keys.
 module _ {R K : Type 0} (key : R → K) (below : K → K → Bool) (one : (a b : K) → ExactlyOne (Holds below a b) (a ≡ b) (Holds below b a))

@@ -130,7 +130,7 @@ base_falls s n m r x sound here previous there =
     omega (arith, base_below s sound m x there, ap (kind_stamp s.group) kind, base_some s r x m y.1 previous there kind)
 
 -- block b is young in a dataset with the owner n
-abbrev Top : State → ℕ → ℕ → Type 0
+abbrev pub Top : State → ℕ → ℕ → Type 0
 Top s n b = (m : ℕ) × (r : Row) × Dataset s m r × (r.owner ≡ n) × Young s m b
 
 module _ (s : State) (sound : Sound s) (n : ℕ) (o : Option ℕ) (head : IsHead s n o) where
@@ -202,7 +202,7 @@ module _ (s : State) (sound : Sound s) (n : ℕ) (o : Option ℕ) (head : IsHead
       (o, m, q, head, (owners_tell s n o sound head m r here).0 own, points, omega (arith, based (suc (base s r)) m r (omega arith) here own, ap (base s) is), e)
 
 -- what a file system uses are the blocks that are young in the datasets of its owner
-used_young : (s : State) (n b : ℕ) → Sound s → Top s n b ↔ Uses s n b
+pub used_young : (s : State) (n b : ℕ) → Sound s → Top s n b ↔ Uses s n b
 used_young s n b sound = (there, back)
   where
     there : Top s n b → Uses s n b

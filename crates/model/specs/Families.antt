@@ -1,17 +1,18 @@
 -- Datasets that belong together.
---     Ancestor s n m      m is met from n, going from previous to previous across origins
+--     Ancestors s n ms    ms are all snapshots met from n, going from previous to previous across origins, the oldest first
 --     Met s o n m         m is met from n, going from previous to previous, before the origin o
 --     OwnSnapshot s n m   m is a snapshot of head n's own
 --     Belongs s n m       m is in the file system of head n: it is n or one of its own snapshots
 --     Next s n m          m is the next of snapshot n
 --     IsClone s n m       head m is a clone of snapshot n
-use Rattle.std.specs.Prelude.{◌≡◌, ℕ, ◌⊎◌, Some, Option, ◌≢◌}
-use Rattle.model.specs.Datasets.{State, IsHead, Previous}
+use Rattle.std.specs.Prelude.{◌≡◌, ℕ, ◌⊎◌, List, [], ◌∷◌, ◌++◌, Some, None, Option, ◌≢◌}
+use Rattle.records.specs.declared.rows.Row.{Row}
+use Rattle.model.specs.Datasets.{State, Dataset, IsHead, Previous}
 
--- m is met from n, going from previous to previous, across origins
-pub data Ancestor (s : State) : ℕ → ℕ → Type 0 where
-  nearest : {n m : ℕ} → Previous s n m → Ancestor s n m
-  farther : {n m k : ℕ} → Previous s n m → Ancestor s m k → Ancestor s n k
+-- the snapshots met from n, going from previous to previous across origins, the oldest first
+pub data Ancestors (s : State) : ℕ → List ℕ → Type 0 where
+  none : {n : ℕ} (r : Row) → Dataset s n r → r.previous ≡ None → Ancestors s n []
+  after : {n m : ℕ} {ms : List ℕ} → Previous s n m → Ancestors s m ms → Ancestors s n (ms ++ m ∷ [])
 
 -- m is met from n, going from previous to previous and stopping before the origin o
 pub data Met (s : State) (o : Option ℕ) : ℕ → ℕ → Type 0 where

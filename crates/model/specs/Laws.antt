@@ -5,14 +5,19 @@
 --     OwnersTell         the rows with the owner n are the file system of head n
 --     UsedIsSum          what a file system uses is the sum over its datasets of the blocks that are young in them
 --     EitherOrder        two snapshots destroyed in either order leave the same state and give back as much
-use Rattle.std.specs.Prelude.{◌≡◌, ℕ, ◌+◌, Bool, ◌↔◌, List, Some, None, filter, Ok, Option, Result, ◌≢◌, ◌==◌}
+--     OneBucket          each record of a dead list lies in exactly one of its buckets
+use Rattle.std.specs.Prelude.{◌≡◌, ℕ, ◌+◌, ◌<◌, Bool, ◌↔◌, List, length, Some, None, filter, Ok, Option, Result, ◌≢◌, ◌==◌}
 use Rattle.std.specs.List.{sum_by}
 use Rattle.std.specs.Borrow.{Bor}
 use Rattle.faults.specs.declared.Layer.{Layer}
+use Rattle.ordered.specs.Lists.{Stands}
+use Rattle.records.specs.Keys.{dead_key, dead_below}
+use Rattle.records.specs.declared.dead.DeadRecord.{DeadRecord}
 use Rattle.records.specs.declared.rows.Row.{Row}
 use Rattle.tree.specs.Paths.{filled}
+use Rattle.model.specs.Buckets.{InBucket}
 use Rattle.model.specs.Datasets.{State, Dataset, IsHead, IsSnapshot, Young, formatted, Position, reads}
-use Rattle.model.specs.Families.{Belongs}
+use Rattle.model.specs.Families.{Ancestors, Belongs}
 use Rattle.model.specs.Figures.{HowMany, UsedIs}
 use Rattle.model.specs.Questions.{questions, format_questions, AllYes}
 use Rattle.model.specs.Soundness.{Sound}
@@ -84,3 +89,8 @@ pub record EitherOrder : Type 0 where
   -- both orders leave the same state and give back as many blocks
   pub same : (s u v : State) (n m x y g h : ℕ) → Sound s → IsSnapshot s n x → IsSnapshot s m y
       → DestroysBoth s n m u g → DestroysBoth s m n v h → (u ≡ v) × (g ≡ h)
+
+-- each record of a dataset's dead list lies in exactly one of its buckets
+abbrev pub OneBucket : Type 0
+OneBucket = (s : State) (n : ℕ) (ms : List ℕ) (x : DeadRecord) → Sound s → Ancestors s n ms → Stands dead_key dead_below s.dead x → x.dataset ≡ n
+    → (k : ℕ) × (k < length ms) × InBucket s n ms k x × ((j : ℕ) → j < length ms → InBucket s n ms j x → j ≡ k)

@@ -1,7 +1,10 @@
+pub mod Buckets
 pub mod Datasets
 pub mod Families
 pub mod Figures
+pub mod Histories
 pub mod Laws
+pub mod Life
 pub mod Limits
 pub mod Paths
 pub mod Questions

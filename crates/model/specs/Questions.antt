@@ -13,11 +13,11 @@ use Rattle.records.specs.declared.rows.Row.{Row}
 use Rattle.tree.specs.Trees.{block_size}
 use Rattle.tree.specs.Paths.{Stay}
 use Rattle.model.specs.Datasets.{State, Dataset, Unused, IsHead, IsSnapshot, Position, free}
-use Rattle.model.specs.Families.{IsClone, OwnSnapshot}
+use Rattle.model.specs.Families.{Ancestors, IsClone, OwnSnapshot}
 use Rattle.model.specs.Limits.{IsDatasetNumber, Height, PoolSize, RowRoom, DeadRoom}
 use Rattle.model.specs.Paths.{Hole, sinking}
 use Rattle.model.specs.declared.Call.{Call}
-use Rattle.model.specs.declared.Call.TheVariants.{Create, Write, Discard, Read, Snapshot, Clone, Destroy, Unique, Used}
+use Rattle.model.specs.declared.Call.TheVariants.{Create, Write, Discard, Read, Snapshot, Clone, Destroy, Unique, Used, Bucket}
 
 -- a statement, and the cause of the refusal where it does not hold
 pub record Question : Type 1 where
@@ -115,6 +115,7 @@ questions s (Clone m n) = numbered m ∷ numbered n ∷ exists s m ∷ snapshot 
 questions s (Destroy n) = numbered n ∷ exists s n ∷ no_clones s n ∷ no_snapshots s n ∷ []
 questions s (Unique n) = numbered n ∷ exists s n ∷ no_clones s n ∷ []
 questions s (Used n) = numbered n ∷ exists s n ∷ head s n ∷ []
+questions s (Bucket n k) = numbered n ∷ exists s n ∷ in_range ((ms : List ℕ) × Ancestors s n ms × (k < length ms)) ∷ []
 
 -- the questions before block memory and two tables of so many places are formatted for an allocator: do they suit a
 -- pool of its size, and does it own nothing?

@@ -26,14 +26,15 @@ use Rattle.records.specs.declared.rows.Pointer.{Pointer}
 use Rattle.records.specs.declared.rows.Row.{Row}
 use Rattle.tree.specs.Paths.{Stay, Rewritten, new_at, filled}
 use Rattle.model.specs.Datasets.{State, Dataset, Young, Buried, base, head_row, dead_of, reads}
+use Rattle.model.specs.Buckets.{BucketIs}
 use Rattle.model.specs.Families.{Next}
 use Rattle.model.specs.Figures.{UniqueIs, UsedIs}
 use Rattle.model.specs.Paths.{Leaves, Hole, sinking}
 use Rattle.model.specs.Questions.{questions, AllYes, FirstNo}
 use Rattle.model.specs.declared.Answer.{Answer}
-use Rattle.model.specs.declared.Answer.TheVariants.{Done, Bytes, Count}
+use Rattle.model.specs.declared.Answer.TheVariants.{Done, Bytes, Count, Part}
 use Rattle.model.specs.declared.Call.{Call}
-use Rattle.model.specs.declared.Call.TheVariants.{Create, Write, Discard, Read, Snapshot, Clone, Destroy, Unique, Used}
+use Rattle.model.specs.declared.Call.TheVariants.{Create, Write, Discard, Read, Snapshot, Clone, Destroy, Unique, Used, Bucket}
 use Rattle.model.specs.declared.Changed.{Changed}
 
 -- how many blocks are owned after and not before
@@ -176,7 +177,7 @@ Destroyed s t n r (OfSnapshot g) = SnapshotDestroyed s t n r
 -- Snapshot n m: m is taken of head n.
 -- Clone m n: a new head with the tree of m.
 -- Destroy n: a head or a snapshot goes.
--- Read n p, Unique n, Used n: nothing changes.
+-- Read n p, Unique n, Used n, Bucket n k: nothing changes.
 abbrev pub Granted : State → Call → Answer → State → Type 0
 Granted s (Create n h) a t = (a ≡ Done (changed s t)) × (t ≡ with_row s (head_row n h))
 Granted s (Write n p text) a t = (a ≡ Done (changed s t)) × ((r : Row) × Dataset s n r × Replaced s t n r p (suc r.height) (filled text.now))
@@ -189,6 +190,7 @@ Granted s (Clone m n) a t = (a ≡ Done (changed s t)) × ((r : Row) × Dataset 
 Granted s (Destroy n) a t = (a ≡ Done (changed s t)) × ((r : Row) × Dataset s n r × Destroyed s t n r r.kind)
 Granted s (Unique n) a t = ((k : ℕ) × (a ≡ Count k) × UniqueIs s n k) × (t ≡ s)
 Granted s (Used n) a t = ((k : ℕ) × (a ≡ Count k) × UsedIs s n k) × (t ≡ s)
+Granted s (Bucket n k) a t = ((place : ℕ) × (len : ℕ) × (a ≡ Part place len) × BucketIs s n k place len) × (t ≡ s)
 
 -- Every question is answered yes, and the call is granted; or the first no refuses it, and nothing changes.
 abbrev pub Step : State → Call → Result Answer Layer → State → Type 0

@@ -1,11 +1,15 @@
 // What a pool is: its state, the calls, the questions that are put before a call, and what a granted call answers
 // and leaves. All of it is said in specs/, in the subject's words; the code here is only the types that calls and
 // answers are made of.
-// Proved: a pool just formatted is sound, every step keeps a sound pool sound, and each position reads what was last
-// written there.
+// Proved: a pool just formatted is sound, and every step keeps a sound pool sound; each position reads what was last
+// written there; a file system is the rows that its head owns, and uses the sum of what is young in them; each record of
+// a dead list lies in one of its buckets; two snapshots destroyed in either order leave the same pool and give back as
+// many blocks; any life of a pool keeps its promises throughout; the worked histories are as they are told.
 #![tactic(auto)]
 
-ghost use Rattle.model.specs.Laws.{EitherOrder, FormattedSound, OwnersTell, ReadsLast, StepsKeepSound, UsedIsSum};
+ghost use Rattle.model.specs.Histories.{Histories};
+ghost use Rattle.model.specs.Life.{LifeKept};
+ghost use Rattle.model.specs.Laws.{EitherOrder, FormattedSound, OneBucket, OwnersTell, ReadsLast, StepsKeepSound, UsedIsSum};
 
 // A call, as a script or a list of calls names it.
 #[derive(Clone, Copy, Debug, PartialEq, Eq)]
@@ -46,6 +50,10 @@ pub enum Call<'t> {
     Used {
         number: u32,
     },
+    Bucket {
+        number: u32,
+        bucket: u32,
+    },
 }
 
 // What a granted change answers: how many blocks are owned after it and were not before, and the reverse.
@@ -63,6 +71,8 @@ pub enum Answer {
     Bytes(Option<[u8; 64]>),
     // A number of blocks.
     Count(u32),
+    // A part of the dead table: how many records stand before it, and how many it has.
+    Part { place: usize, len: usize },
 }
 
 // A pool just formatted is sound.
@@ -97,4 +107,22 @@ pub fn used_is_a_sum()
 #[tactic(auto, using(crate::proofs::Orders::either_order))]
 pub fn either_order_leaves_the_same()
     ensures { EitherOrder }
+{}
+
+// Each record of a dead list lies in exactly one of its buckets.
+#[tactic(auto, using(crate::proofs::Buckets::one_bucket))]
+pub fn dead_records_lie_in_one_bucket()
+    ensures { OneBucket }
+{}
+
+// Every run of calls from a formatting on keeps what a pool's life promises, at its start and after every call.
+#[tactic(auto, using(crate::proofs::Lives::life_kept))]
+pub fn lives_keep_their_promises()
+    ensures { LifeKept }
+{}
+
+// The worked histories: what these calls answer in every pool just formatted.
+#[tactic(auto, using(crate::proofs::Histories::histories))]
+pub fn histories_are_forced()
+    ensures { Histories }
 {}

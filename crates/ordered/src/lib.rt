@@ -4,8 +4,8 @@
 //
 // Proved once for all kinds, of a table in order: each call answers what the records before it say, leaves exactly the
 // records that it names, and leaves the table in order; a call for one key changes what is found under that key alone.
-// Joining a list to another, in one pass and with no memory of its own, does so where no record that moves gets the key
-// of one that is there. Of any table, in order or not, whatever its count: every call returns, none changes a place
+// Joining a list to another, with no memory of its own, does so where no record that moves gets the key of one that is
+// there. Of any table, in order or not, whatever its count: every call returns, none changes a place
 // past the records that it leaves, and one that refuses (the key is there, no place is left, nothing is found) changes
 // neither a place nor the count.
 #![tactic(auto)]

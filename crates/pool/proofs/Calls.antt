@@ -1,6 +1,5 @@
 -- From what replacing a path leaves to the steps of a write and a discard.
-use Rattle.std.proofs.Common.{◌≡◌, ℕ, suc, ◌+◌, ◌-◌, ◌^◌, ◌<◌, ◌≤◌, true, false, ltb, ◌⊎◌, List, [], ◌∷◌, length, Ok, Err, Result, sym, refl, ap, subst, inl, inr, arith, Bor}
-use Rattle.std.proofs.lemmas.Bool.{cases_Bool, ltb-true, ltb-false}
+use Rattle.std.proofs.Common.{◌≡◌, ℕ, suc, ◌+◌, ◌^◌, ◌<◌, ◌≤◌, List, [], ◌∷◌, length, Ok, Err, Result, sym, refl, ap, subst, inl, inr, arith, Bor}
 use Rattle.faults.specs.declared.Layer.{Layer}
 use Rattle.records.specs.declared.rows.Row.{Row}
 use Rattle.tree.specs.Trees.{block_size, fan}
@@ -14,6 +13,7 @@ use Rattle.model.specs.Steps.{Replaced, Step}
 use Rattle.model.specs.declared.Answer.TheVariants.{Done}
 use Rattle.model.specs.declared.Call.TheVariants.{Discard, Write}
 use Rattle.model.specs.declared.Changed.{Changed}
+use Rattle.model.proofs.Readings.{stay_most}
 use Rattle.model.proofs.Rows.{row_number}
 use Rattle.pool.specs.Paths.{IsWritable, Replaces, Routed}
 use Rattle.pool.specs.Pools.{done}
@@ -94,21 +94,6 @@ no_data s t n r p k bytes dropped rep = record {
   size = rep.size;
 }
 
--- the levels that stay are one number
-one_stay : (s : State) (r : Row) (p j k : ℕ) → Stay s.memory r.root r.height p j → Stay s.memory r.root r.height p k → j ≤ k
-one_stay s r p j k a b = go (cases_Bool (ltb k j))
-  where
-    clash : k < j → ⊥
-    clash lt =
-        let beside = a.other (omega arith) in
-        let none = b.only (j - 1) (omega arith) (omega (arith, a.within)) beside.which beside.small beside.other in
-        let z : ◌≡◌ {A = ℕ} 0 1 = cc (none, beside.here) in
-        omega arith
-
-    go : (ltb k j ≡ true) ⊎ (ltb k j ≡ false) → j ≤ k
-    go (inl e) = absurd (clash (ltb-true k j e))
-    go (inr e) = omega (arith, ltb-false k j e)
-
 pub discard_step : (s t : State) (n p k : ℕ) (r : Row) (c : Result Changed Layer) → IsWritable s n r → p < fan ^ r.height → (Hole s r p → ⊥) → Stay s.memory r.root r.height p k
     → Replaces s r p k [] c t → Step s (Discard n p) (done c) t
 discard_step s t n p k r (Ok c) is position full stay (enough, fits, counts, rep) = (
@@ -122,7 +107,7 @@ discard_step s t n p k r (Err l) is position full stay (inl (none, cause), same)
   where
     short : (j : ℕ) → DiscardTakes s p r j → j ≤ free s → ⊥
     short j (inl (hole, _)) le = full hole
-    short j (inr (_, other)) le = none (omega (arith, one_stay s r p k j stay other, le))
+    short j (inr (_, other)) le = none (omega (arith, stay_most s r p k j stay other, le))
 discard_step s t n p k r (Err l) is position full stay (inr (enough, none, cause), same) = (
   inr (is.number, inr ((r, is.found), inr ((is.origin, (r, is.found, is.head)), inr ((r, is.found, position), inr ((r, k, is.found, inr (full, stay), enough), inl (few s n r (DiscardSinks s p) (λ j. length s.dead + j ≤ s.dead_room) is.found short, cause)))))),
   same,

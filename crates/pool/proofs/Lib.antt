@@ -4,7 +4,9 @@ pub mod Copies
 pub mod Destroying
 pub mod Exchange
 pub mod Finds
+pub mod Lineage
 pub mod Lists
+pub mod Parts
 pub mod Places
 pub mod Planting
 pub mod Releasing

@@ -5,7 +5,7 @@
 --     HasOrigin t m n         the row with number m is of a head with the origin n
 --     state_of meaning p      the state that the pool p holds, where `meaning` is what its allocator means
 --     Intact sound meaning p  the pool p and its allocator are sound
---     done r, bytes_read r, counted r    what a change, a read and a figure answer, as answers of a call
+--     done r, bytes_read r, counted r, part_told r    what a change, a read, a figure and a bucket answer, as answers of a call
 use Rattle.std.specs.Prelude.{◌≡◌, ℕ, ◌<◌, List, length, Some, None, Ok, Err, Option, Result, nat_lt}
 use Rattle.std.specs.Borrow.{Bor}
 use Rattle.std.specs.Option.{option_map}
@@ -15,12 +15,13 @@ use Rattle.ordered.specs.Lent.{Ordered, records, room}
 use Rattle.ordered.specs.Tables.{record_of}
 use Rattle.ordered.specs.declared.tables.Table.{Table}
 use Rattle.records.specs.Keys.{number_of}
+use Rattle.records.specs.declared.dead.DeadRecord.{DeadRecord}
 use Rattle.records.specs.declared.rows.Kind.TheVariants.{Head}
 use Rattle.records.specs.declared.rows.Row.{Row}
 use Rattle.model.specs.Datasets.{State}
 use Rattle.model.specs.Soundness.{Sound}
 use Rattle.model.specs.declared.Answer.{Answer}
-use Rattle.model.specs.declared.Answer.TheVariants.{Done, Bytes, Count}
+use Rattle.model.specs.declared.Answer.TheVariants.{Done, Bytes, Count, Part}
 use Rattle.model.specs.declared.Changed.{Changed}
 use Rattle.pool.specs.declared.Pool.{Pool}
 
@@ -72,3 +73,8 @@ bytes_read (Err l) = Err l
 abbrev pub counted : Result ℕ Layer → Result Answer Layer
 counted (Ok k) = Ok (Count k)
 counted (Err l) = Err l
+
+-- what a bucket answers: the place of a part of the dead table, and how many records it has
+abbrev pub part_told : Result (Bor (List DeadRecord) × ℕ) Layer → Result Answer Layer
+part_told (Ok p) = Ok (Part p.1 (length p.0.now))
+part_told (Err l) = Err l

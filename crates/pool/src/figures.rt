@@ -53,17 +53,23 @@ pub fn list_start(dataset: u32) -> DeadRecord
     }
 }
 
-// Where in it the blocks begin that were born after the stamp, and where it ends.
+// Where in it the blocks begin that were born after the stamp.
+pub fn young_start(dataset: u32, stamp: u32) -> DeadRecord
+    ensures value { result ≡ record { dataset = dataset; birth = min (stamp + 1) (2 ^ 32 - 1); block = 0 } }
+{
+    DeadRecord {
+        birth: stamp.saturating_add(1),
+        ..list_start(dataset)
+    }
+}
+
+// Where those begin, and where the list ends.
 pub fn young_ends(dataset: u32, stamp: u32) -> (DeadRecord, DeadRecord)
     ensures first { result.0 ≡ record { dataset = dataset; birth = min (stamp + 1) (2 ^ 32 - 1); block = 0 } }
     ensures second { result.1 ≡ record { dataset = min (dataset + 1) (2 ^ 32 - 1); birth = 0; block = 0 } }
 {
-    let birth = stamp.saturating_add(1);
-    let first = DeadRecord {
-        birth,
-        ..list_start(dataset)
-    };
-    (first, list_start(dataset.saturating_add(1)))
+    let end = list_start(dataset.saturating_add(1));
+    (young_start(dataset, stamp), end)
 }
 
 impl<'m, A: BlockAllocator + Drop> Pool<'m, A> {

@@ -29,6 +29,7 @@ use records::dead::DeadRecord;
 use records::rows::{Kind, Pointer, Row};
 use tree::{BLOCK_BYTES, FreshPath, Path, Route};
 
+mod buckets;
 mod destroys;
 mod figures;
 mod questions;

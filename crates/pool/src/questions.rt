@@ -133,6 +133,13 @@ pub fn position(height: u32, position: u32) -> Result<(), PoolCause>
     ask(inside, PoolCause::OutOfRange)
 }
 
+// Is it below the number of buckets?
+pub fn bucket(bucket: u32, count: u32) -> Result<(), PoolCause>
+    ensures cases { MatchResult result (λ _. bucket < count) (λ c. (c ≡ OutOfRange) × (bucket < count → ⊥)) }
+{
+    ask(bucket < count, PoolCause::OutOfRange)
+}
+
 // Do so many bytes fit a block?
 pub fn text(len: usize) -> Result<(), PoolCause>
     ensures cases { MatchResult result (λ _. len ≤ block_size) (λ c. (c ≡ OutOfRange) × (len ≤ block_size → ⊥)) }

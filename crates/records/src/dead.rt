@@ -15,6 +15,15 @@ pub struct DeadRecord {
     pub block: u32,
 }
 
+impl DeadRecord {
+    // What dead records may be filled with before they are lent. A constant, like a row's.
+    pub const UNUSED: DeadRecord = DeadRecord {
+        dataset: 0,
+        birth: 0,
+        block: 0,
+    };
+}
+
 impl Key for DeadRecord {
     ghost below = { dead_below };
 

@@ -10,7 +10,8 @@ use Rattle.script.specs.Parts.{Cut, until}
 use Rattle.script.specs.declared.parts.Part.{Part}
 use Rattle.script.proofs.Splits.{splits_until, cut_until}
 
-first_front : (bs line rest : List ℕ) → FirstLine bs line rest → until 10 bs ≡ line
+-- the first line stands before the first byte 10
+pub first_front : (bs line rest : List ℕ) → FirstLine bs line rest → until 10 bs ≡ line
 first_front bs line rest (_, inl split) = splits_until 10 bs line (Some rest) split
 first_front bs line rest (_, inr (split, _)) = splits_until 10 bs line None split
 

@@ -1,7 +1,11 @@
+pub mod Bytes
 pub mod Decimals
+pub mod Examples
 pub mod Firsts
 pub mod Nexts
 pub mod Puts
 pub mod Readings
 pub mod Runs
+pub mod Scripts
 pub mod Splits
+pub mod Texts

@@ -4,3 +4,4 @@ pub mod Parts
 pub mod Sessions
 pub mod Shown
 pub mod Words
+pub mod Worked

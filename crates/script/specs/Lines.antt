@@ -12,7 +12,7 @@ use Rattle.faults.specs.declared.ScriptCause.{ScriptCause}
 use Rattle.faults.specs.declared.ScriptCause.TheVariants.{Letter, WordCount, Digits, Text}
 use Rattle.model.specs.Questions.{Question, ask, AllYes, FirstNo}
 use Rattle.model.specs.declared.Call.{Call}
-use Rattle.model.specs.declared.Call.TheVariants.{Create, Write, Discard, Read, Snapshot, Clone, Destroy, Unique, Used}
+use Rattle.model.specs.declared.Call.TheVariants.{Create, Write, Discard, Read, Snapshot, Clone, Destroy, Unique, Used, Bucket}
 use Rattle.script.specs.Words.{words, first_words, Numeral, IsText}
 
 -- the letters d, u and a have one number, c, x, p, s and k two, and w two and a text
@@ -53,7 +53,7 @@ line_questions line =
 abbrev pub two_numbers : ℕ → ℕ → List ℕ
 two_numbers n m = decimal n ++ codes " " ++ decimal m
 
--- the line that writes a call
+-- the line that writes a call; a bucket has none, and stands for the empty line, which is refused
 abbrev pub call_text : Call → List ℕ
 call_text (Create n h) = codes "c " ++ two_numbers n h
 call_text (Write n p text) = codes "w " ++ two_numbers n p ++ codes " " ++ text.now
@@ -64,6 +64,7 @@ call_text (Clone m n) = codes "k " ++ two_numbers m n
 call_text (Destroy n) = codes "d " ++ decimal n
 call_text (Unique n) = codes "u " ++ decimal n
 call_text (Used n) = codes "a " ++ decimal n
+call_text (Bucket n k) = []
 
 -- the value whose text the line is, or the cause of its first no
 abbrev pub ReadsAs : {X : Type 0} → (X → List ℕ) → List ℕ → Result X ScriptCause → Type 0

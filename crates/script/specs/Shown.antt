@@ -7,7 +7,7 @@ use Rattle.std.specs.Prelude.{◌≡◌, ℕ, ◌+◌, ◌≤◌, List, [], ◌�
 use Rattle.faults.specs.Numbers.{fault_number, fault_letter}
 use Rattle.faults.specs.declared.Fault.{Fault}
 use Rattle.model.specs.declared.Answer.{Answer}
-use Rattle.model.specs.declared.Answer.TheVariants.{Done, Bytes, Count}
+use Rattle.model.specs.declared.Answer.TheVariants.{Done, Bytes, Count, Part}
 use Rattle.model.specs.declared.Changed.{Changed}
 use Rattle.script.specs.Parts.{until}
 
@@ -52,6 +52,7 @@ abbrev pub shown_granted : Answer → List ℕ
 shown_granted (Done c) = shown_change c
 shown_granted (Bytes bs) = shown_bytes bs
 shown_granted (Count k) = shown_count k
+shown_granted (Part place len) = shown_count len
 
 abbrev pub shown : Result Answer Fault → List ℕ
 shown (Ok a) = shown_granted a

@@ -18,7 +18,9 @@ pub fn print(answer: Result<Answer, Fault>, out: &mut [u8]) -> usize
         Ok(Answer::Done(changed)) => line.push_change(changed),
         Ok(Answer::Bytes(Some(block))) => line.push_text(&block),
         Ok(Answer::Bytes(None)) => line.push(b"hole\n"),
-        Ok(Answer::Count(count)) => line.push_count(count),
+        Ok(Answer::Count(count)) => line.push_count(count as u64),
+        // No line asks for a bucket.
+        Ok(Answer::Part { len, .. }) => line.push_count(len as u64),
         Err(fault) => line.push_fault(fault),
     }
     line.end
@@ -55,10 +57,10 @@ impl Line<'_> {
     }
 
     // Adds the number in decimal.
-    fn push_number(&mut self, n: u32)
-        requires { self.old.end + 10 ≤ length self.old.out.now }
+    fn push_number(&mut self, n: u64)
+        requires { self.old.end + 20 ≤ length self.old.out.now }
         ensures same_reference { self.new.out.ghost_name ≡ self.old.out.ghost_name }
-        ensures bound { self.new.end ≤ self.old.end + 10 }
+        ensures bound { self.new.end ≤ self.old.end + 20 }
         ensures wrote { Put self.old.out.now self.new.out.now self.old.end self.new.end (decimal n) }
     {
         let mut digits = itoa::Buffer::new();
@@ -72,9 +74,9 @@ impl Line<'_> {
         ensures wrote { Put self.old.out.now self.new.out.now self.old.end self.new.end (shown_change changed) }
     {
         self.push(b"ok ");
-        self.push_number(changed.taken);
+        self.push_number(changed.taken as u64);
         self.push(b" ");
-        self.push_number(changed.given);
+        self.push_number(changed.given as u64);
         self.push(b"\n");
     }
 
@@ -90,7 +92,7 @@ impl Line<'_> {
     }
 
     // Adds `= COUNT`.
-    fn push_count(&mut self, count: u32)
+    fn push_count(&mut self, count: u64)
         requires { self.old.end + 80 ≤ length self.old.out.now }
         ensures same_reference { self.new.out.ghost_name ≡ self.old.out.ghost_name }
         ensures wrote { Put self.old.out.now self.new.out.now self.old.end self.new.end (shown_count count) }
@@ -107,11 +109,11 @@ impl Line<'_> {
         ensures wrote { Put self.old.out.now self.new.out.now self.old.end self.new.end (shown_fault fault) }
     {
         self.push(b"no ");
-        self.push_number(u32::from(fault.layer.number()));
+        self.push_number(u64::from(fault.layer.number()));
         self.push(b" ");
         self.push(&[fault.layer.letter()]);
         self.push(b" ");
-        self.push_number(fault.line);
+        self.push_number(fault.line as u64);
         self.push(b"\n");
     }
 }

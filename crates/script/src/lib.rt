@@ -2,6 +2,7 @@
 // answers it to a buffer of the caller's.
 // Proved, for any script of any bytes: what stands in the buffer after each call is the line that the rules say, byte
 // for byte, and the rest of the buffer is as it was; a buffer of fewer than 80 bytes is refused and nothing changes.
+// By the definitions alone, whatever the allocator takes: the worked script is answered as it is told.
 #![tactic(auto)]
 
 mod answers;
@@ -10,3 +11,4 @@ mod lines;
 mod parts;
 pub mod session;
 mod words;
+pub mod worked;

@@ -2,7 +2,6 @@
 ghost use Rattle.std.specs.Prelude.{◌≡◌, ℕ, ◌≤◌, List, length, take, drop, IfErr, IfOk, MatchOption, MatchResult};
 ghost use Rattle.faults.specs.declared.Layer.TheVariants.{Script};
 ghost use Rattle.faults.specs.declared.ScriptCause.TheVariants.{Size, Letter};
-ghost use Rattle.model.specs.Steps.{Step};
 ghost use Rattle.script.specs.Consoles.{Answered, FirstLine, Names, NamesAllocator, Next, Obeyed, Over, ended, nothing_moved, opened};
 ghost use Rattle.script.specs.Sessions.{NewAllocator, Ready, Whole, console_of, held};
 ghost use Rattle.script.specs.Shown.{Buffer, shown};
@@ -12,8 +11,9 @@ use crate::calls::read_call;
 use crate::lines::Lines;
 use crate::parts::Part;
 use faults::{Fault, Layer, ScriptCause};
+use life::perform;
 use makes::{AnyAllocator, Make};
-use model::{Answer, Call, Changed};
+use model::{Answer, Changed};
 use pool::Pool;
 use records::dead::DeadRecord;
 use records::ranges::FreeRange;
@@ -77,30 +77,6 @@ fn first_make(script: &[u8]) -> Make
 {
     let (line, _) = Part::from(script).cut(b'\n');
     Make::try_from(line).unwrap_or(Make::Bits)
-}
-
-// Has the pool do what a call says.
-fn perform(pool: &mut Pool<'_, AnyAllocator<'_>>, call: Call<'_>) -> Result<Answer, Layer>
-    ensures step { Whole pool.old → Step (held pool.old) call.entry result (held pool.new) }
-    ensures whole { Whole pool.old → Whole pool.new }
-{
-    match call {
-        Call::Create { number, height } => pool.create(number, height).map(Answer::Done),
-        Call::Write {
-            number,
-            position,
-            text,
-        } => pool.write(number, position, text).map(Answer::Done),
-        Call::Discard { number, position } => pool.discard(number, position).map(Answer::Done),
-        Call::Read { number, position } => pool
-            .read(number, position)
-            .map(|found| Answer::Bytes(found.copied())),
-        Call::Snapshot { number, snapshot } => pool.snapshot(number, snapshot).map(Answer::Done),
-        Call::Clone { snapshot, number } => pool.clone_snapshot(snapshot, number).map(Answer::Done),
-        Call::Destroy { number } => pool.destroy(number).map(Answer::Done),
-        Call::Unique { number } => pool.unique(number).map(Answer::Count),
-        Call::Used { number } => pool.used(number).map(Answer::Count),
-    }
 }
 
 // What a later line answers: the pool does what it says.

@@ -13,20 +13,13 @@ use script::session::{
 };
 use std::alloc::{AllocError, Global};
 
-// What stands in a place that holds no dead record.
-const UNUSED: DeadRecord = DeadRecord {
-    dataset: 0,
-    birth: 0,
-    block: 0,
-};
-
 // All that the script prints.
 pub fn print(heap: Global, script: &[u8]) -> Result<Vec<u8>, AllocError>
     ensures prints { IfOk result (λ out. Prints (opened (replicate 16384 0) script.now) out.items) }
 {
     let mut memory = [0u8; MEMORY_BYTES];
     let mut rows = [Row::UNUSED; ROWS];
-    let mut dead = [UNUSED; DEAD_RECORDS];
+    let mut dead = [DeadRecord::UNUSED; DEAD_RECORDS];
     let mut bits = [0u8; BITMAP_BYTES];
     let mut ranges = [FreeRange::UNUSED; FREE_RANGES];
     let lent = Memory {
