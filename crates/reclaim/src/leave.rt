@@ -1,5 +1,6 @@
 // The blocks of an old path.
-ghost use Rattle.std.specs.Prelude.{◌≡◌, ◌+◌, ◌<◌, length, if◌then◌else◌, MatchResult, nat_lt};
+ghost use Rattle.std.specs.Prelude.{◌≡◌, ◌+◌, ◌<◌, length, if◌then◌else◌, IfErr, MatchResult, nat_lt};
+ghost use Rattle.faults.specs.declared.PoolCause.TheVariants.{NoPool};
 ghost use Rattle.model.specs.Datasets.{dead_of};
 ghost use Rattle.ordered.specs.Lent.{records, room};
 ghost use Rattle.reclaim.specs.Leaving.{DeadOrdered, Departed, Ready, sunk};
@@ -58,6 +59,7 @@ fn leave<A: BlockAllocator>(
     ensures room { room dead.new ≡ room dead.old }
     ensures ordered { DeadOrdered dead.old → DeadOrdered dead.new }
     ensures left { A.sound allocator.old → DeadOrdered dead.old → Able (A.meaning allocator.old) (records dead.old) (room dead.old) dataset stamp pointer → MatchResult result (λ given. Left (A.meaning allocator.old) (A.meaning allocator.new) (records dead.old) (records dead.new) dataset stamp pointer given) (λ _. ⊥) }
+    ensures cause { IfErr result (λ c. c ≡ NoPool) }
 {
     if is_young(pointer, stamp) {
         give_back(allocator, pointer.block)?;
@@ -89,6 +91,7 @@ pub fn leave_path<A: BlockAllocator>(
     ensures room { room dead.new ≡ room dead.old }
     ensures ordered { DeadOrdered dead.old → DeadOrdered dead.new }
     ensures left { A.sound allocator.old → DeadOrdered dead.old → Ready (A.meaning allocator.old) (records dead.old) (room dead.old) dataset stamp old.now → MatchResult result (λ given. Departed (A.meaning allocator.old) (A.meaning allocator.new) (records dead.old) (records dead.new) dataset stamp old.now given) (λ _. ⊥) }
+    ensures cause { IfErr result (λ c. c ≡ NoPool) }
 {
     let mut given = 0;
     // A loop: of a closure that changes the allocator and the table a proof would know nothing.

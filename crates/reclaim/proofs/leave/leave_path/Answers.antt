@@ -28,6 +28,7 @@ returns-in_err-gave g c =
       room = o.room ∙ t.room_is;
       ordered = λ d. o.ordered (t.ordered d);
       left = λ s d r. o.left (t.stays s) (t.ordered d) (turned_able _ _ _ _ _ _ _ _ _ _ _ t c.in-Some.leaver (omega arith) c.in-Some.is s d r);
+      cause = p.2 ∙ o.cause;
     })
 
 pub returns : goal.returns
@@ -39,4 +40,5 @@ returns g c =
       room = t.room_is;
       ordered = t.ordered;
       left = λ s d r. departed _ _ _ _ _ _ _ _ (subst (Departing _ _ _ _ _ _ _ _) e (t.left s d r));
+      cause = tt;
     }
