@@ -16,7 +16,7 @@ use std::io::Write;
 
 mod year;
 
-use year::{DELETED_NEWEST_FIRST, DELETED_OLDEST_FIRST, YEAR};
+use year::{AFTER, NEWEST_FIRST, OLDEST_FIRST, YEAR};
 
 // Blocks, and what a pool and an allocator of so many need.
 const BLOCKS: u32 = 64;
@@ -82,7 +82,7 @@ fn print_answer(rt: &impl Print, answer: Result<Answer, Layer>) -> io::Result<()
     }
 }
 
-// The life of a pool over the allocator: the year, and the deletions after it.
+// The life of a pool over the allocator: the year, the deletions after it, and what is left.
 fn live<A: BlockAllocator + Drop>(
     rt: &(impl Print + AllocGlobal),
     allocator: A,
@@ -98,6 +98,7 @@ fn live<A: BlockAllocator + Drop>(
     let mut calls = Vec::new(rt.alloc());
     calls.extend_from_slice(&YEAR)?;
     calls.extend_from_slice(deletions)?;
+    calls.extend_from_slice(&AFTER)?;
     let mut answers = vec![in rt.alloc(); Err(Layer::Pool(PoolCause::NoPool)); calls.len()]?;
     run(&mut pool, &calls, &mut answers);
     for (call, answer) in calls.iter().zip(&answers) {
@@ -113,9 +114,9 @@ fn main(rt: HostRuntime) -> io::Result<()> {
     println!(rt; "a bitmap, the oldest deleted first")?;
     let mut bits = [0u8; BITMAP_BYTES];
     let (bitmap, _) = Bitmap::new(&mut bits, BLOCKS);
-    live(&rt, bitmap, &DELETED_OLDEST_FIRST)?;
+    live(&rt, bitmap, &OLDEST_FIRST)?;
     println!(rt; "a range map, the newest deleted first")?;
     let mut ranges = [FreeRange::UNUSED; FREE_RANGES];
     let (map, _) = RangeMap::new(&mut ranges, BLOCKS);
-    live(&rt, map, &DELETED_NEWEST_FIRST)
+    live(&rt, map, &NEWEST_FIRST)
 }

@@ -91,28 +91,19 @@ pub const YEAR: [Call<'static>; 24] = [
     Call::Used { number: 1 },
 ];
 
-// The two oldest timetables go.
-pub const DELETED_OLDEST_FIRST: [Call<'static>; 6] = [
+// The two oldest timetables go, in one order or in the other.
+pub const OLDEST_FIRST: [Call<'static>; 2] = [
     Call::Destroy { number: 101 },
     Call::Destroy { number: 102 },
-    Call::Read {
-        number: 1,
-        position: 0,
-    },
-    Call::Read {
-        number: 1,
-        position: 1,
-    },
-    Call::Read {
-        number: 1,
-        position: 9,
-    },
-    Call::Used { number: 1 },
 ];
 
-pub const DELETED_NEWEST_FIRST: [Call<'static>; 6] = [
+pub const NEWEST_FIRST: [Call<'static>; 2] = [
     Call::Destroy { number: 102 },
     Call::Destroy { number: 101 },
+];
+
+// What the live timetable then reads and uses.
+pub const AFTER: [Call<'static>; 4] = [
     Call::Read {
         number: 1,
         position: 0,
