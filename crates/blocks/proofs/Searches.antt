@@ -50,27 +50,42 @@ module _ {F B : Type 0} {g : Mut F (ℕ × Unit {0}) (Option B)} (f : F) (P : �
       → Mapped P s r
   mapped_from_range s r found = subst (λ s. Mapped P s r) found.1 (from_run found.0 r found.2)
 
--- by bytes: the bits of byte i are those from 8 * i on, and of these the ones from `from` on are asked for
-module _ (s : ℕ → Bool) (from to end : ℕ) (whole : to ≤ 8 * end) where
+-- by whole bytes: the bits of byte i are those from 8 * i on
+module _ (s : ℕ → Bool) where
   abbrev pub InByte : ℕ → Option ℕ → Type 0
-  InByte i o = MatchOption o (Taken s (max from (8 * i)) (8 * i + 8)) (λ n. FirstFree s (max from (8 * i)) (8 * i + 8) n)
+  InByte i o = MatchOption o (Taken s (max (8 * i) (8 * i)) (8 * i + 8)) (λ n. FirstFree s (max (8 * i) (8 * i)) (8 * i + 8) n)
 
-  abbrev First : Option ℕ → Type 0
-  First o = MatchOption o (Taken s from to) (λ n. FirstFree s from to n)
+  -- from one bit on and below another
+  abbrev pub First : ℕ → ℕ → Option ℕ → Type 0
+  First from to o = MatchOption o (Taken s from to) (λ n. FirstFree s from to n)
 
-  passed : (i : ℕ) → ((j : ℕ) → from / 8 ≤ j → j < i → InByte j None) → Taken s from (8 * i)
-  passed i h k a b = h (k / 8) (omega arith) (omega arith) k (omega arith) (omega arith)
+  module _ (start end : ℕ) where
+    passed : (i : ℕ) → ((j : ℕ) → start ≤ j → j < i → InByte j None) → Taken s (8 * start) (8 * i)
+    passed i h k a b = h (k / 8) (omega arith) (omega arith) k (omega arith) (omega arith)
 
-  pub first_free : (r o : Option ℕ) → Mapped InByte (record { start = from / 8; end = end }) r → MatchOption r (o ≡ None) (λ n. o ≡ then_some (nat_lt n to) n) → First o
-  first_free None o found kept = subst First (sym kept) (λ k a b. passed end found k a (omega arith))
-  first_free (Some n) o found kept = subst First (sym kept) (cut (nat_lt n to) refl)
-    where
-      i : ℕ
-      i = found.0
+    pub first_in : (r : Option ℕ) → Mapped InByte (record { start = start; end = end }) r → First (8 * start) (8 * end) r
+    first_in None found = passed end found
+    first_in (Some n) found = record {
+      from = omega (arith, found.1, found.3.from);
+      under = omega (arith, found.2, found.3.under);
+      clear = found.3.clear;
+      before = λ k a b. ⊎_elim (λ (l : k < 8 * found.0). passed found.0 found.4 k a l) (λ (l : 8 * found.0 ≤ k). found.3.before k (omega arith) b) (cases_lt k (8 * found.0));
+    }
 
-      before : Taken s from n
-      before k a b = ⊎_elim (λ (l : k < 8 * i). passed i found.4 k a l) (λ (l : 8 * i ≤ k). found.3.before k (omega arith) b) (cases_lt k (8 * i))
+  -- in the first byte, else in the others, and below the end
+  module _ (from to end : ℕ) (whole : to ≤ 8 * end) where
+    below : (n : ℕ) → s n ≡ false → Taken s from n → from ≤ n → (o : Option ℕ) → o ≡ then_some (nat_lt n to) n → First from to o
+    below n clear before up o kept = subst (First from to) (sym kept) (cut (nat_lt n to) refl)
+      where
+        cut : (b : Bool) → nat_lt n to ≡ b → First from to (then_some b n)
+        cut true e = record { from = up; under = ltb-true n to e; clear = clear; before = before }
+        cut false e = λ k a b. before k a (omega (arith, ltb-false n to e))
 
-      cut : (b : Bool) → nat_lt n to ≡ b → First (then_some b n)
-      cut true e = record { from = omega (arith, found.3.from); under = ltb-true n to e; clear = found.3.clear; before = before }
-      cut false e = λ k a b. before k a (omega (arith, ltb-false n to e))
+    pub first_free : (near r o : Option ℕ) → First (max from (8 * (from / 8))) (8 * (from / 8) + 8) near → (near ≡ None → First (8 * (from / 8 + 1)) (8 * end) r)
+        → ((n : ℕ) → near ≡ Some n → r ≡ Some n) → MatchOption r (o ≡ None) (λ n. o ≡ then_some (nat_lt n to) n) → First from to o
+    first_free (Some n) r o found else same kept = below n found.clear (λ k a b. found.before k (omega arith) b) (omega (arith, found.from)) o (let e = same n refl in rw e at kept)
+    first_free None None o found else same kept = let later = else refl in
+        subst (First from to) (sym kept) (λ k a b. ⊎_elim (λ (l : k < 8 * (from / 8) + 8). found k (omega arith) l) (λ (l : 8 * (from / 8) + 8 ≤ k). later k (omega arith) (omega arith)) (cases_lt k (8 * (from / 8) + 8)))
+    first_free None (Some n) o found else same kept = let later = else refl in
+        below n later.clear (λ k a b. ⊎_elim (λ (l : k < 8 * (from / 8) + 8). found k (omega arith) l) (λ (l : 8 * (from / 8) + 8 ≤ k). later.before k (omega arith) b) (cases_lt k (8 * (from / 8) + 8)))
+        (omega (arith, later.from)) o kept

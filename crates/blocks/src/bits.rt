@@ -60,11 +60,22 @@ fn first_clear_of(bytes: &[u8], i: u32, from: u32) -> Option<u32>
     (place < 8).then(|| 8 * i + place)
 }
 
-// The first bit that is 0, from one bit on and below another.
+// The first bit that is 0, in the bytes from one on and below another.
+fn first_clear_in(bytes: &[u8], start: u32, end: u32) -> Option<u32>
+    requires { 8 * end ≤ 2 ^ 32 }
+    ensures value { MatchOption result (Taken (bits bytes.now) (8 * start) (8 * end)) (λ n. FirstFree (bits bytes.now) (8 * start) (8 * end) n) }
+{
+    (start..end).find_map(|i| first_clear_of(bytes, i, 8 * i))
+}
+
+// The first bit that is 0, from one bit on and below another. Only in the first byte some bits are passed over, so that
+// the loop over the others has less to do.
 pub(crate) fn first_clear(bytes: &[u8], from: u32, to: u32) -> Option<u32>
     ensures value { MatchOption result (Taken (bits bytes.now) from to) (λ n. FirstFree (bits bytes.now) from to n) }
 {
-    (from / 8..to.div_ceil(8))
-        .find_map(|i| first_clear_of(bytes, i, from))
+    let near = from / 8;
+    let end = to.div_ceil(8);
+    first_clear_of(bytes, near, from)
+        .or_else(|| first_clear_in(bytes, near + 1, end))
         .filter(|n| *n < to)
 }

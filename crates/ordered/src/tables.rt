@@ -5,10 +5,11 @@ ghost use Rattle.std.specs.List.{between, insert, remove};
 ghost use Rattle.std.specs.Result.{result_ok};
 ghost use Rattle.ordered.specs.Lent.{KeptPast, Ordered, Unchanged, records, room};
 ghost use Rattle.ordered.specs.Order.{Holds};
-ghost use Rattle.ordered.specs.Tables.{Alone, index_of, rank_of, record_of, part_of, without_part, with_record, without_key, replaced, fits_at, fits_over, either, answer, after};
+ghost use Rattle.ordered.specs.Tables.{Alone, Ascending, index_of, rank_of, record_of, part_of, without_part, with_record, without_key, replaced, fits_at, fits_over, either, answer, after};
 
 use crate::keys::Key;
 use crate::records::Record;
+use std::cmp::Ordering;
 
 // Why a record was not put in.
 #[derive(Clone, Copy, Debug, PartialEq, Eq)]
@@ -17,6 +18,37 @@ pub enum InsertError {
     Present,
     // No place is left.
     Full,
+}
+
+// Where the record with that key stands among others in order, or where it belongs. A loop of its own: std's search goes
+// on where it has met the key, so that a record in the middle would take as many looks as any other. `size` records from
+// `base` on are still to be searched; that it falls by the same half either way spares a branch.
+fn search<R: Record>(among: &[R], key: R::Key) -> Result<usize, usize>
+    ensures within { MatchResult result (λ i. i < length among.now) (λ i. i ≤ length among.now) }
+    ensures finds { Ascending R.keyed (Holds R.Key.Key.below) among.now → result_ok result ≡ index_of R.keyed R.Key.Key.below among.now key }
+    ensures ranks { Ascending R.keyed (Holds R.Key.Key.below) among.now → either result ≡ rank_of R.keyed R.Key.Key.below among.now key }
+{
+    let mut base = 0;
+    let mut size = among.len();
+    while size > 1 {
+        let half = size / 2;
+        let middle = base + half;
+        let order = among[middle].key().cmp(&key);
+        if order.is_eq() {
+            return Ok(middle);
+        }
+        base = if order.is_gt() { base } else { middle };
+        size -= half;
+    }
+    if size == 0 {
+        return Err(base);
+    }
+    let last = among[base].key();
+    match last.cmp(&key) {
+        Ordering::Less => Err(base + 1),
+        Ordering::Equal => Ok(base),
+        Ordering::Greater => Err(base),
+    }
 }
 
 // A lent slice with a count beside it: a Vec would take the heap. That the records are in order is a premise of the
@@ -177,8 +209,7 @@ impl<'m, R: Record> Table<'m, R> {
         ensures finds { Ordered R.keyed R.Key.Key.below self.now → result_ok result ≡ index_of R.keyed R.Key.Key.below (records self.now) key }
         ensures ranks { Ordered R.keyed R.Key.Key.below self.now → either result ≡ rank_of R.keyed R.Key.Key.below (records self.now) key }
     {
-        self.records()
-            .binary_search_by(|record| record.key().cmp(&key))
+        search(self.records(), key)
     }
 
     // Whether no place is left.

@@ -1,6 +1,6 @@
 -- The last range that begins before a block, and which blocks it tells of. Assumes nothing.
-use Rattle.std.proofs.Common.{◌≡◌, ℕ, zero, suc, ◌+◌, ◌-◌, ◌<◌, ◌≤◌, Bool, true, false, ◌||◌, ltb, ◌⊎◌, List, [], ◌∷◌, length, get_or, Some, None, Option, sym, refl, ap, ◌∙◌, subst, inl, inr, arith}
-use Rattle.std.proofs.lemmas.Bool.{cases_Bool, cases_eq, cond-true, cond-false, or_from, ltb-true, le-ltb, eq-eqb, ne_eqb}
+use Rattle.std.proofs.Common.{◌≡◌, ℕ, zero, suc, ◌+◌, ◌-◌, ◌^◌, ◌<◌, ◌≤◌, min, Bool, true, false, ◌||◌, ltb, ◌⊎◌, List, [], ◌∷◌, length, get_or, Some, None, Option, sym, refl, ap, ◌∙◌, subst, inl, inr, arith}
+use Rattle.std.proofs.lemmas.Bool.{cases_Bool, cases_eq, cond-true, cond-false, or_from, ltb-true, lt-ltb, le-ltb, eq-eqb, ne_eqb}
 use Rattle.std.proofs.lemmas.Bool.Decides.{nat_tests}
 use Rattle.std.proofs.lemmas.Option.{none-some}
 use Rattle.std.proofs.Math.Bool.{or-false}
@@ -151,3 +151,26 @@ reaches n b xs e out (Some r) q = go (cases_eq (r.first + r.length) b)
       none = λ z j s. last_tells 0 n (b + 1) j xs e (omega arith) (Some r) q (omega (arith, ends, some))
           ∙ (let i : r.first + r.length ≤ j = omega (arith, ends) in within_above r j i);
     })
+
+-- all ranges begin before the number of blocks
+pub last_past : (lo n k j : ℕ) (xs : List FreeRange) → apart lo n xs ≡ true → n ≤ k → n ≤ j → last_before xs k ≡ last_before xs j
+last_past lo n k j [] e ka ja = refl
+last_past lo n k j (x ∷ xs) e ka ja =
+    let p = parts lo n x xs e in
+    cond-true _ _ _ (lt-ltb x.first k (omega (arith, p.high, p.some))) ∙ ap (λ o. or_else o x) (last_past (x.first + x.length + 1) n k j xs p.rest ka ja)
+    ∙ sym (cond-true _ _ _ (lt-ltb x.first j (omega (arith, p.high, p.some))))
+
+-- the last at or before block b, by the rank of the next block, or of the greatest number where there is none
+last_next : (n b next : ℕ) (xs : List FreeRange) → apart 0 n xs ≡ true → n ≤ 32768 → next ≡ min (b + 1) (2 ^ 32 - 1) → last_before xs next ≡ last_before xs (b + 1)
+last_next n b next xs e few is = go (cases_eq next (b + 1))
+  where
+    go : (next ≡ b + 1) ⊎ (next ≡ b + 1 → ⊥) → last_before xs next ≡ last_before xs (b + 1)
+    go (inl same) = ap (last_before xs) same
+    go (inr other) = last_past 0 n next (b + 1) xs e (omega (arith, other, is)) (omega (arith, other, is))
+
+pub up_to_none : (n b next : ℕ) (xs : List FreeRange) → apart 0 n xs ≡ true → n ≤ 32768 → next ≡ min (b + 1) (2 ^ 32 - 1) → rank_at xs next ≡ 0 → last_before xs (b + 1) ≡ None
+up_to_none n b next xs e few is none = sym (last_next n b next xs e few is) ∙ last_none xs next none
+
+pub up_to_some : (n b next : ℕ) (xs : List FreeRange) (i : ℕ) (d : FreeRange) → apart 0 n xs ≡ true → n ≤ 32768 → next ≡ min (b + 1) (2 ^ 32 - 1) → rank_at xs next ≡ suc i
+    → last_before xs (b + 1) ≡ Some (get_or xs i d)
+up_to_some n b next xs i d e few is some = sym (last_next n b next xs e few is) ∙ last_some 0 n next xs i d e some

@@ -22,12 +22,8 @@ use Rattle.ranges.proofs.Laws.{with_range}
 use Rattle.ranges.proofs.Steps.{Fitting, Put, in_order, inserts, owned_parts}
 
 -- by o, the last range that begins at or before block k
-pub looked : (m : RangeMap) (k : ℕ) (o : Option FreeRange) → Sound m → (k < m.size → o ≡ last_before (records m.ranges) (k + 1)) → (ltb k m.size && not (has o k)) ≡ (map_of m).owns k
-looked m k o s last = go (cases_Bool (ltb k m.size))
-  where
-    go : (ltb k m.size ≡ true) ⊎ (ltb k m.size ≡ false) → (ltb k m.size && not (has o k)) ≡ (map_of m).owns k
-    go (inl below) = ap (λ (b : Bool). ltb k m.size && not b) (ap (λ o. has o k) (last (ltb-true k m.size below)) ∙ sym (last_in m.size k (records m.ranges) s.regular.maximal))
-    go (inr past) = and_left _ _ past ∙ sym (and_left _ _ past)
+pub looked : (m : RangeMap) (k : ℕ) (o : Option FreeRange) → Sound m → o ≡ last_before (records m.ranges) (k + 1) → (ltb k m.size && not (has o k)) ≡ (map_of m).owns k
+looked m k o s last = ap (λ (b : Bool). ltb k m.size && not b) (ap (λ o. has o k) last ∙ sym (last_in m.size k (records m.ranges) s.regular.maximal))
 
 -- where no range is free, all blocks are owned
 pub all_held : (n : ℕ) (rs : List FreeRange) → length rs ≡ 0 → count (held n rs) n ≡ n
@@ -104,12 +100,12 @@ took_sound m b u left s took e = record {
   counted = omega (arith, free_less (map_of m) (map_of (record { ranges = u; size = m.size; spare = left })) b (refl, took.owned), s.counted);
 }
 
-pub gave : (m : RangeMap) (b : ℕ) (o : Option FreeRange) (u : Table FreeRange) → Sound m → (b < m.size → o ≡ last_before (records m.ranges) (b + 1)) → (ltb b m.size && not (has o b)) ≡ true
+pub gave : (m : RangeMap) (b : ℕ) (o : Option FreeRange) (u : Table FreeRange) → Sound m → o ≡ last_before (records m.ranges) (b + 1) → (ltb b m.size && not (has o b)) ≡ true
     → PutsBack m.ranges b (reach o b) u → Gave m.size m.ranges b u
 gave m b o u s last out back =
     let owned : (map_of m).owns b ≡ true = sym (looked m b o s last) ∙ out in
     let parts = owned_parts m.size b (records m.ranges) owned in
-    back m.size s.regular owned (reaches m.size b (records m.ranges) s.regular.maximal parts.1 o (sym (last parts.0)))
+    back m.size s.regular owned (reaches m.size b (records m.ranges) s.regular.maximal parts.1 o (sym last))
 
 pub gave_sound : (m : RangeMap) (b : ℕ) (u : Table FreeRange) (left : ℕ) → Sound m → Gave m.size m.ranges b u → left ≡ min (m.spare + 1) (2 ^ 32 - 1) → Sound (record { ranges = u; size = m.size; spare = left })
 gave_sound m b u left s gave e = record {

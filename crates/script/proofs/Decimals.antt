@@ -1,55 +1,68 @@
 -- Numbers of one to five digits.
-use Rattle.std.proofs.Common.{◌≡◌, ℕ, ◌^◌, ◌<◌, ◌≤◌, zero, suc, List, [], ◌∷◌, length, get_or, None, Ok, Err, decimal, Result, sym, ap, ◌∙◌, subst, arith, lit<}
+use Rattle.std.proofs.Common.{◌≡◌, ℕ, ◌+◌, ◌-◌, ◌*◌, ◌^◌, ◌<◌, ◌≤◌, ◌⊎◌, List, [], ◌∷◌, ◌++◌, length, get_or, take, decimal, sym, refl, ap, ◌∙◌, subst, inl, inr, ⊎_elim, arith, lit<, rules, below_more}
 use Rattle.std.specs.Int.{IsInRange}
-use Rattle.std.specs.Option as options
-use Rattle.std.specs.Result as results
-use Rattle.std.specs.Result.{result_ok}
-use Rattle.std.specs.Str.{IsUtf8}
-use Rattle.std.specs.Str.Parse.{AllDigits, digits_value, ParsesUnsigned}
-use Rattle.std.proofs.lemmas.Str.{IsUtf8-from_ascii}
-use Rattle.std.proofs.lemmas.Str.Parse.{IsNumeralModel, numerals_by_value, tells_digits, parse_plain, digits_value_short, digit_at}
-use Rattle.std.proofs.lemmas.Fmt.{IsAscii-decimal, parse-decimal, decimal_nonempty, length-decimal-le, first_decimal, decimal_digit, digits_decimal, decimal-digits_value}
-use Rattle.script.specs.Words.{Writes, Numeral}
+use Rattle.std.proofs.lemmas.Str.Parse.{IsNumeralModel, numerals_by_fold, tells_by_index, digits_value_short}
+use Rattle.std.proofs.lemmas.Fmt.{decimal_nonempty, length-decimal-le, first_decimal, decimal_digit, digits_decimal, decimal-digits_value}
+use Rattle.std.proofs.lemmas.List.{take_more, take_all, length-take-le, get_or-take}
+use Rattle.std.proofs.str.Laws.{order}
 
-own : IsNumeralModel (AllDigits 10) (digits_value 10)
-own = numerals_by_value _ tells_digits
+abbrev pub read_on : ℕ → List ℕ → ℕ
+read_on n [] = n
+read_on n (c ∷ cs) = read_on (10 * n + (c - 48)) cs
 
--- just 0, or one to five digits of which the first is not 0
-pub record Formed (bs : List ℕ) : Type 0 where
+abbrev pub AllDigits : List ℕ → Type 0
+AllDigits ds = (i : ℕ) → i < length ds → IsInRange 48 57 (get_or ds i 0)
+
+pub own : IsNumeralModel AllDigits (read_on 0)
+own = numerals_by_fold _ tells_by_index read_on (search rules)
+
+pub read_push : (n : ℕ) (xs : List ℕ) (c : ℕ) → read_on n (xs ++ c ∷ []) ≡ 10 * read_on n xs + (c - 48)
+read_push n [] c = refl
+read_push n (x ∷ xs) c = read_push (10 * n + (x - 48)) xs c
+
+-- what the digits of a small number look like
+pub record Short (bs : List ℕ) : Type 0 where
   pub some : 0 < length bs
   pub few : length bs ≤ 5
-  pub first : IsInRange 48 57 (get_or bs 0 0)
   pub lead : get_or bs 0 0 ≡ 48 → length bs ≡ 1
+  pub digits : AllDigits bs
 
-decimal_formed : (n : ℕ) → n < 100000 → n < 2 ^ 64 → Formed (decimal n)
-decimal_formed zero low fits = rw (decimal_digit 0 (lit< tt)) (record { some = omega arith; few = omega arith; first = (omega arith, omega arith); lead = λ z. omega arith })
-decimal_formed (suc n) low fits = record {
-  some = decimal_nonempty (suc n) fits;
-  few = length-decimal-le 5 (suc n) (lit< tt) low fits;
-  first = digit_at _ 0 (digits_decimal own (suc n) fits) (decimal_nonempty (suc n) fits);
-  lead = λ z. absurd (omega (arith, first_decimal (suc n) (omega arith) fits));
-}
+pub small : (n : ℕ) → n < 100000 → n < 2 ^ 64
+small n h = omega arith
 
-pub formed : (bs : List ℕ) → Numeral bs → Formed bs
-formed bs (n, (low, e)) = subst Formed (sym e) (decimal_formed n low (omega arith))
+zero_or_not : (n : ℕ) → (n ≡ 0) ⊎ (0 < n)
+zero_or_not n = ⊎_elim (λ h. inr h) (λ h. inl (omega arith)) (order 0 n)
 
--- every numeral is text
-pub no_text : {S E : Type 0} (bs : List ℕ) (r : Result S E) (is : S → Type 0) (at : E → Type 0) → results.MatchResult r is (λ e. (IsUtf8 bs → ⊥) × at e) → result_ok r ≡ None → Numeral bs → ⊥
-no_text bs (Ok s) is at m none n = absurd (cc)
-no_text bs (Err e) is at m none (n, (low, same)) = m.0 (subst IsUtf8 (sym same) (IsUtf8-from_ascii (decimal n) (IsAscii-decimal n (omega arith))))
+pub short_decimal : (bs : List ℕ) (n : ℕ) → n < 100000 → bs ≡ decimal n → Short bs
+short_decimal bs n h e =
+    subst Short (sym e) (record {
+      some = decimal_nonempty n (small n h);
+      few = length-decimal-le 5 n (lit< tt) h (small n h);
+      lead = λ z. ⊎_elim (λ w. ap (λ m. length (decimal m)) w ∙ ap length (decimal_digit 0 (lit< tt))) (λ w. absurd (omega (arith, first_decimal n w (small n h)))) (zero_or_not n);
+      digits = digits_decimal own n (small n h);
+    })
 
-pub writes_zero : (bs : List ℕ) → length bs ≡ 1 → get_or bs 0 0 ≡ 48 → Writes bs 0
-writes_zero [] one z = absurd (omega arith)
-writes_zero (b ∷ []) one z = (lit< tt, ap (λ x. x ∷ []) z ∙ sym (decimal_digit 0 (lit< tt)))
-writes_zero (b ∷ c ∷ bs) one z = absurd (omega arith)
+-- the value of a front of at most four digits
+pub front_small : (bs : List ℕ) (i : ℕ) → AllDigits (take i bs) → i < length bs → length bs ≤ 5 → read_on 0 (take i bs) < 10000
+front_small bs i d h few = digits_value_short own (take i bs) 4 d (omega (arith, length-take-le i bs (omega arith)))
 
--- what `parse` answers to five bytes or fewer, of which the first is a digit other than 0
-pub parsed : {E : Type 0} (bs : List ℕ) (r : Result ℕ E) → 0 < length bs → length bs ≤ 5 → 48 < get_or bs 0 0 → get_or bs 0 0 < 58 → ParsesUnsigned 32 10 bs r
-    → options.MatchOption (result_ok r) (Numeral bs → ⊥) (λ n. Writes bs n)
-parsed {E} bs (Ok n) some few first last h =
-    let p : (AllDigits 10 bs × (0 < length bs) × (digits_value 10 bs < 2 ^ 32)) × (n ≡ digits_value 10 bs) = parse_plain own {E = E} 32 bs (Ok n) h (λ e. omega arith) in
-    let all : AllDigits 10 bs = p.0.0 in
-    let low : digits_value 10 bs < 100000 = digits_value_short own bs 5 all few in
-    let is : n ≡ digits_value 10 bs = p.1 in
-    (omega arith, sym (ap decimal is ∙ decimal-digits_value own bs all some (λ z. absurd (omega arith)) (omega arith)))
-parsed bs (Err e) some few first last h = λ m. let no : Err e ≡ Ok m.0 = parse-decimal 32 m.0 bs (Err e) (omega (arith, m.1.0)) (omega (arith, m.1.0)) m.1.1 h in cc
+pub digits_more : (bs : List ℕ) (i : ℕ) → i < length bs → AllDigits (take i bs) → IsInRange 48 57 (get_or bs i 0) → AllDigits (take (i + 1) bs)
+digits_more bs i h d here =
+    let long = length-take-le i bs (omega arith) in
+    let more = length-take-le (i + 1) bs (omega arith) in
+    let at : (k : ℕ) → k < i + 1 → IsInRange 48 57 (get_or (take (i + 1) bs) k 0) =
+    below_more (λ k. IsInRange 48 57 (get_or (take (i + 1) bs) k 0)) i
+    (λ k lt. let lt' : k < i + 1 = omega arith in rw (get_or-take (i + 1) bs k 0 lt') (rw get_or-take at (d k (omega arith))))
+    (let lt' : i < i + 1 = omega arith in rw (get_or-take (i + 1) bs i 0 lt') here) in
+    λ k lt. at k (omega arith)
+
+pub read_more : (bs : List ℕ) (i v : ℕ) → i < length bs → v ≡ read_on 0 (take i bs) → v * 10 + (get_or bs i 0 - 48) ≡ read_on 0 (take (i + 1) bs)
+read_more bs i v h e = rw (take_more bs i 0 h, read_push 0 (take i bs) (get_or bs i 0), ← e) (omega arith)
+
+pub read_all : (bs : List ℕ) (i v : ℕ) → 0 < length bs → length bs ≤ 5 → (get_or bs 0 0 ≡ 48 → length bs ≡ 1) → length bs ≤ i → AllDigits (take i bs) → v ≡ read_on 0 (take i bs) → (v < 100000) × (bs ≡ decimal v)
+read_all bs i v some few lead end d e =
+    let whole = take_all i bs end in
+    let all : AllDigits bs = subst AllDigits whole d in
+    let is : v ≡ read_on 0 bs = e ∙ ap (read_on 0) whole in
+    let low : read_on 0 bs < 100000 = digits_value_short own bs 5 all few in
+    (omega arith, sym (ap decimal is ∙ decimal-digits_value own bs all some lead (omega arith)))

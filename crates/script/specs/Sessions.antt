@@ -1,11 +1,12 @@
 -- A session, by the console that it is.
 --     rest_of l            what the lines l still have to read
+--     end_of l             the place in the script where that ends
 --     Reads l r m          the lines l give r next, and are then m
 --     held p, Whole p      the state that the pool p holds; the pool p and its allocator are sound
 --     console_of s         the console that the session s is
 --     Ready s              the pool of the session s is whole
 --     NewAllocator s a     the allocator a is the one that the first line of the script s names, and owns nothing
-use Rattle.std.specs.Prelude.{◌≡◌, ℕ, ◌+◌, false, List, [], Some, None, Ok, Err, Option, Result}
+use Rattle.std.specs.Prelude.{◌≡◌, ℕ, ◌+◌, false, List, [], length, Some, None, Ok, Err, Option, Result}
 use Rattle.faults.specs.declared.ScriptCause.{ScriptCause}
 use Rattle.faults.specs.declared.ScriptCause.TheVariants.{Size}
 use Rattle.makes.specs.Makes as any
@@ -24,11 +25,16 @@ use Rattle.script.specs.declared.session.Session.{Session}
 abbrev pub rest_of : Lines → List ℕ
 rest_of l = l.rest.bytes.now
 
--- nothing is left; or too much, and no more is read; or the first line
+-- the place where it ends
+abbrev pub end_of : Lines → ℕ
+end_of l = l.rest.at + length (rest_of l)
+
+-- nothing is left; or too much, and no more is read; or the first line, at its place. What is left ends where it ended
 abbrev pub Reads : Lines → Option (Result Part ScriptCause) → Lines → Type 0
 Reads l None m = (rest_of l ≡ []) × (m ≡ l)
-Reads l (Some (Err c)) m = (c ≡ Size) × TooLong (rest_of l) × (rest_of m ≡ []) × (m.read ≡ l.read)
-Reads l (Some (Ok p)) m = (TooLong (rest_of l) → ⊥) × FirstLine (rest_of l) p.bytes.now (rest_of m) × (m.read ≡ l.read + 1)
+Reads l (Some (Err c)) m = (c ≡ Size) × TooLong (rest_of l) × (rest_of m ≡ []) × (m.read ≡ l.read) × (end_of m ≡ end_of l)
+Reads l (Some (Ok p)) m =
+    (TooLong (rest_of l) → ⊥) × FirstLine (rest_of l) p.bytes.now (rest_of m) × (m.read ≡ l.read + 1) × (p.at ≡ l.rest.at) × (end_of m ≡ end_of l)
 
 -- a pool over an allocator of either make: the state that it holds, and that both are sound
 abbrev pub held : Pool AnyAllocator → State

@@ -19,10 +19,11 @@ pub struct Lines<'s> {
 }
 
 impl<'s> Lines<'s> {
-    ghost use Rattle.script.specs.Sessions.{rest_of};
+    ghost use Rattle.script.specs.Sessions.{end_of, rest_of};
 
     pub fn new(script: &'s [u8]) -> Lines<'s>
         ensures rest { rest_of result ≡ script.now }
+        ensures place { result.rest.at ≡ 0 }
         ensures read { result.read ≡ 0 }
     {
         Lines {
@@ -34,6 +35,7 @@ impl<'s> Lines<'s> {
     // Reads no more.
     pub fn stop(&mut self)
         ensures rest { rest_of self.new ≡ [] }
+        ensures place { end_of self.new ≡ end_of self.old }
         ensures read { self.new.read ≡ self.old.read }
     {
         self.rest = self.rest.end();

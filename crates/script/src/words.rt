@@ -15,16 +15,25 @@ pub enum Word<'s> {
     Text(Part<'s>),
 }
 
-// The number that the bytes write in one to five digits, without a leading zero unless it is 0.
-#[tactic(auto, using(crate::proofs::Decimals::formed))]
+// The number that the bytes write in one to five digits, without a leading zero unless it is 0. Digit by digit: `parse`
+// wants text first, and then tests each digit for more than these have.
 fn number(bytes: &[u8]) -> Option<u32>
     ensures cases { MatchOption result (Numeral bytes.now → ⊥) (λ n. Writes bytes.now n) }
 {
-    match bytes {
-        [b'0'] => Some(0),
-        [b'1'..=b'9', ..] if bytes.len() <= 5 => str::from_utf8(bytes).ok()?.parse().ok(),
-        _ => None,
+    if bytes.is_empty() || bytes.len() > 5 {
+        return None;
     }
+    if bytes[0] == b'0' && bytes.len() > 1 {
+        return None;
+    }
+    let mut value: u32 = 0;
+    for b in bytes {
+        if !b.is_ascii_digit() {
+            return None;
+        }
+        value = value * 10 + u32::from(*b - b'0');
+    }
+    Some(value)
 }
 
 // Are the bytes one to 64, and each printable?

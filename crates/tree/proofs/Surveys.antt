@@ -6,8 +6,8 @@ use Rattle.std.specs.Option.{is_some}
 use Rattle.std.specs.List.{range_with_len, AllWithin, HoldsAt}
 use Rattle.std.proofs.lemmas.List.FromFn.{get_or-range_with_len}
 use Rattle.records.specs.declared.rows.Pointer.{Pointer}
-use Rattle.tree.specs.Trees.{pointer_in, at, digit, on_path}
-use Rattle.tree.specs.Paths.{HolesBeside, PointerBeside, led, OnlyChild, OtherChild}
+use Rattle.tree.specs.Trees.{pointer_in, child, at, digit, on_path}
+use Rattle.tree.specs.Paths.{HolesBeside, PointerBeside, led, OnlyChild, OtherChild, Surveyed}
 use Rattle.tree.proofs.Places.{path_down}
 use Rattle.tree.proofs.Pointers.{led_child}
 
@@ -118,3 +118,38 @@ module _ (mem : List ℕ) (root : Option Pointer) (h p : ℕ) where
             (cases_eq e d);
         other = s.other;
       })
+
+  -- below a hole there are holes
+  pub survey_hole : (old : List (Option Pointer)) (k d : ℕ) → d < h → Surveying mem root h p old k d → get_or old d None ≡ None → Surveying mem root h p old k (d + 1)
+  unfolding child
+  survey_hole old k d lt s e = record {
+    long = s.long;
+    pointers = λ i l. ⊎_elim
+        (λ (z : i ≡ d + 1). s.past i (omega arith) ∙ sym below ∙ ap (on_path mem root h p) (sym z))
+        (λ (n : i ≡ d + 1 → ⊥). s.pointers i (omega (arith, n)))
+        (cases_eq i (d + 1));
+    past = λ i l. s.past i (omega arith);
+    within = (let y = s.within in omega arith);
+    only = λ i a b. ⊎_elim
+        (λ (z : i ≡ d). subst (λ (q : Option Pointer). OnlyChild mem q (digit h p i)) (sym hole ∙ ap (on_path mem root h p) (sym z)) (λ j l n. refl))
+        (λ (n : i ≡ d → ⊥). s.only i a (omega (arith, n)))
+        (cases_eq i d);
+    other = s.other;
+  }
+    where
+      hole : on_path mem root h p d ≡ None
+      hole = sym (s.pointers d (omega arith)) ∙ e
+
+      below : on_path mem root h p (d + 1) ≡ None
+      below = ap (on_path mem root h p) (add-one d) ∙ path_down mem root h p d lt ∙ ap (λ (q : Option Pointer). child mem q (digit h p d)) hole
+
+  -- so that a survey is over there
+  pub survey_rest : (n : ℕ) (old : List (Option Pointer)) (k d : ℕ) → d + n ≡ h → Surveying mem root h p old k d → get_or old d None ≡ None → Surveyed mem root h p old k
+  survey_rest zero old k d e s none =
+      let last : d ≡ h = omega arith in
+      let t = subst (Surveying mem root h p old k) last s in
+      record { long = t.long; pointers = t.pointers; past = t.past; stay = record { within = t.within; only = t.only; other = t.other } }
+  survey_rest (suc n) old k d e s none = survey_rest n old k (d + 1) (omega arith) (survey_hole old k d (omega arith) s none) (s.past (d + 1) (omega arith))
+
+  pub survey_there : (old : List (Option Pointer)) (k d : ℕ) (next : Option Pointer) → h ≤ 4 → d < h → Surveying mem root h p old k d → next ≡ get_or (set old (d + 1) next) (d + 1) None
+  survey_there old k d next h4 lt s = sym (get_or-set_same old (d + 1) next None (let x = s.long in omega arith))

@@ -36,7 +36,11 @@ pub(crate) fn decode(bytes: &[u8; BLOCK_BYTES], place: usize) -> Option<Pointer>
 {
     let block = word(bytes, POINTER_BYTES * place);
     let birth = word(bytes, POINTER_BYTES * place + 4);
-    (block != 0 || birth != 0).then_some(Pointer { block, birth })
+    if block == 0 && birth == 0 {
+        None
+    } else {
+        Some(Pointer { block, birth })
+    }
 }
 
 // The two words of a pointer, as bytes; a hole is zero bytes.

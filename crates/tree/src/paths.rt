@@ -99,15 +99,21 @@ pub fn survey(memory: &[u8], root: Option<Pointer>, path: Path) -> Result<Route,
     }
     let mut old = [None; LEVELS];
     old[0] = root;
+    let mut here = root;
     let mut kept = 0;
     // By index: of an array that an iterator wrote a proof knows the length alone.
     for depth in 0..path.height as usize {
+        // Below a hole there are holes, and no other pointers.
+        if here.is_none() {
+            break;
+        }
         let place = path.digit(depth);
-        let bytes = load(memory, old[depth])?;
+        let bytes = load(memory, here)?;
         if has_other(bytes, place) {
             kept = depth + 1;
         }
-        old[depth + 1] = decode(bytes, place);
+        here = decode(bytes, place);
+        old[depth + 1] = here;
     }
     Ok(Route { path, old, kept })
 }
