@@ -76,7 +76,7 @@ impl BlockAllocator for RangeMap<'_> {
         Ok(range.first)
     }
 
-    #[tactic(auto, using(crate::proofs::Maps::looked, crate::proofs::Maps::gave, crate::proofs::Maps::gave_sound))]
+    #[tactic(auto, using(crate::proofs::Maps::looked))]
     fn give(&mut self, n: u32) -> Result<(), NotOwned>
         ensures gives { Sound self.old → Giving (map_of self.old) n (map_of self.new) result }
         ensures sound { Sound self.old → Sound self.new }
